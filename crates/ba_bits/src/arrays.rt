@@ -28,7 +28,7 @@ pub(crate) fn zeros(alloc: Global, count: usize) -> Result<Cells, AllocError>
         → numbers_in free nodes cells ≡ replicate count 0) }
     ensures zeros { IfOk result SpellZero }
 {
-    let mut words = Vec::new(alloc);
+    let mut words = Vec::with_capacity(alloc, count)?;
     words.resize(count, constant_word(0))?;
     Ok(Cells::from_vec(words))
 }

@@ -32,7 +32,7 @@ impl Cells {
     pub fn one(alloc: Global, word: Word) -> Result<Cells, AllocError>
         ensures { IfOk result (λ cells. cells ≡ word ∷ []) }
     {
-        let mut words = Vec::new(alloc);
+        let mut words = Vec::with_capacity(alloc, 1)?;
         words.push(word)?;
         Ok(Cells { words })
     }

@@ -8,8 +8,8 @@
 ghost use Rattle.std.specs.Prelude.{◌≡◌, ℕ, ◌+◌, ◌*◌, ◌/◌, ◌%◌, ◌<◌, ◌≤◌, ◌^◌, ◌==◌, Bool, ◌&&◌, nat_lt, List, length, IfOk};
 ghost use Rattle.ba_nodes.specs.declared.Bit.{Bit};
 ghost use Rattle.ba_nodes.specs.declared.Node.{Node};
-ghost use Rattle.ba_nodes.specs.Gates.{truth, IsBitOf, gates_in, Extends, HasValue};
-ghost use Rattle.ba_words.specs.Words.{digit, number_of, low_number, bit_at, AreBitsOf};
+ghost use Rattle.ba_nodes.specs.Gates.{truth, IsBitOf, HasValue, Grows, MakesBit};
+ghost use Rattle.ba_words.specs.Words.{digit, number_of, low_number, bit_at, AreBitsOf, AreWords};
 ghost use Rattle.ba_cells.specs.Cells.{AreCellsOf, IsCellAt, IsCellRead, AreWritten, Spells, IsGrid};
 
 use ba_nodes::{Bit, Nodes};
@@ -36,8 +36,7 @@ pub fn read_cell(nodes: &mut Nodes, cells: &[Word], index: &Word) -> Result<Word
     ensures value { IfOk result (IsCellAt (λ free. number_of free nodes.old index.now) nodes.old
         cells.now nodes.new) }
     ensures read { IfOk result (IsCellRead nodes.old cells.now index.now nodes.new) }
-    ensures extends { Extends nodes.old nodes.new }
-    ensures count { gates_in nodes.new ≤ gates_in nodes.old + 96 * length cells.now + 224 }
+    ensures grows { Grows nodes.old nodes.new (96 * length cells.now + 224) }
 {
     let (rows, columns, width) = grid_of(nodes, index, cells.len())?;
     let mut word = cells[0];
@@ -70,8 +69,7 @@ pub fn write_cell(
         AreWritten (λ free. truth free nodes.old when)
         (λ free. number_of free nodes.old index.now)
         nodes.old cells.now value.now nodes.new written.items) }
-    ensures extends { Extends nodes.old nodes.new }
-    ensures count { gates_in nodes.new ≤ gates_in nodes.old + 104 * length cells.now + 224 }
+    ensures grows { Grows nodes.old nodes.new (104 * length cells.now + 224) }
 {
     let beyond = is_beyond(nodes, index)?;
     let hit = nodes.and(when, Nodes::not(beyond))?;
@@ -89,11 +87,9 @@ pub fn write_cell(
 /// Whether a bit of the index above those that tell the cells apart is true.
 fn is_beyond(nodes: &mut Nodes, index: &Word) -> Result<Bit, AllocError>
     requires { AreBitsOf nodes.old index.now }
-    ensures value { IfOk result (λ bit.
-        HasValue nodes.new bit (λ free.
-        nat_lt (low_number free nodes.old index.now 8) (number_of free nodes.old index.now))) }
-    ensures extends { Extends nodes.old nodes.new }
-    ensures count { gates_in nodes.new ≤ gates_in nodes.old + 24 }
+    ensures { MakesBit nodes.old nodes.new result 24
+        (λ free. nat_lt (low_number free nodes.old index.now 8)
+        (number_of free nodes.old index.now)) }
 {
     let mut some = Nodes::constant(false);
     for i in INDEX_BITS..32 {
@@ -118,10 +114,8 @@ fn is_at(
         (λ free. low_number free nodes.old index.now 8 / width == place / width) }
     requires column { HasValue nodes.old (bit_at columns.now (place % width))
         (λ free. low_number free nodes.old index.now 8 % width == place % width) }
-    ensures value { IfOk result (λ bit.
-        HasValue nodes.new bit (λ free. low_number free nodes.old index.now 8 == place)) }
-    ensures extends { Extends nodes.old nodes.new }
-    ensures count { gates_in nodes.new ≤ gates_in nodes.old + 1 }
+    ensures { MakesBit nodes.old nodes.new result 1
+        (λ free. low_number free nodes.old index.now 8 == place) }
 {
     nodes.and(rows[place / width], columns[place % width])
 }
@@ -137,8 +131,7 @@ fn grid_of(
     requires index { AreBitsOf nodes.old index.now }
     ensures grid { IfOk result (λ r. IsGrid nodes.new index.now cells r.0 r.1 r.2) }
     ensures long { IfOk result (λ r. (length r.0 ≡ 16) × (length r.1 ≡ 16)) }
-    ensures extends { Extends nodes.old nodes.new }
-    ensures count { gates_in nodes.new ≤ gates_in nodes.old + 48 }
+    ensures grows { Grows nodes.old nodes.new 48 }
 {
     let lowest = pair_of(nodes, index, 0)?;
     let low = pair_of(nodes, index, 2)?;
@@ -163,8 +156,7 @@ fn pair_of(nodes: &mut Nodes, index: &Word, place: usize) -> Result<Numbers, All
     ensures value { IfOk result (λ bits. Spells nodes.new bits 4
         (λ free. digit (truth free nodes.old (bit_at index.now place))
         + 2 * digit (truth free nodes.old (bit_at index.now (place + 1))))) }
-    ensures extends { Extends nodes.old nodes.new }
-    ensures count { gates_in nodes.new ≤ gates_in nodes.old + 4 }
+    ensures grows { Grows nodes.old nodes.new 4 }
 {
     let (first, second) = (index[place], index[place + 1]);
     let mut bits = [Nodes::constant(false); 16];
@@ -183,15 +175,13 @@ fn combined(
     count: usize,
 ) -> Result<Numbers, AllocError>
     requires few { count ≤ 16 }
-    requires first { AreBitsOf nodes.old upper.now }
-    requires second { AreBitsOf nodes.old lower.now }
+    requires words { AreWords nodes.old upper.now lower.now }
     ensures long { IfOk result (λ bits. length bits ≡ 16) }
     ensures bits { IfOk result (AreBitsOf nodes.new) }
     ensures value { IfOk result (λ bits. (n : ℕ) → n < count → HasValue nodes.new (bit_at bits n)
         (λ free. truth free nodes.old (bit_at upper.now (n / 4))
         && truth free nodes.old (bit_at lower.now (n % 4)))) }
-    ensures extends { Extends nodes.old nodes.new }
-    ensures count { gates_in nodes.new ≤ gates_in nodes.old + count }
+    ensures grows { Grows nodes.old nodes.new count }
 {
     let mut bits = [Nodes::constant(false); 16];
     for n in 0..count {

@@ -10,3 +10,4 @@ pub mod SettingsLaws
 pub mod CertificateLaws
 pub mod PrefixLaws
 pub mod SinkLaws
+pub mod AddLaws

@@ -1,13 +1,11 @@
 -- The line of a step is read as it, and a line that is read is that of what was read.
 
-use Rattle.std.proofs.Common.{◌≡◌, ◌≢◌, ℕ, true, Some, Result, Ok, Err, List, [], ◌∷◌, ◌++◌, map, flat_map, codes, decimal, IfOk, refl, sym, ap, ◌∙◌, arith}
+use Rattle.std.proofs.Common.{◌≡◌, ℕ, true, Option, None, Some, List, [], ◌∷◌, ◌++◌, map, flat_map, codes, decimal, refl, sym, ap, ◌∙◌, arith}
 use Rattle.std.proofs.lemmas.Option.{none-some, same_Some}
 use Rattle.ba_choices.specs.declared.Choice.{Choice}
 use Rattle.ba_steps.specs.declared.step.CertStep.{CertStep}
 use Rattle.ba_steps.specs.declared.step.CertStep.TheVariants.{Learn, Core, Delete, Block, EndLocated, EndNoRepair, EndTooMany, EndSpent}
-use Rattle.ba_cert.specs.declared.error.CertError.{CertError}
-use Rattle.ba_cert.specs.declared.error.CertError.TheVariants.{BadLine, Memory}
-use Rattle.ba_cert.specs.Readers.{Parses}
+use Rattle.ba_cert.specs.Readers.{IsReading}
 use Rattle.ba_cert.specs.Text.{ended, clause_parts, step_parts, joined, line_of, HasLine}
 use Rattle.ba_text.specs.Texts.{choice_parts}
 use Rattle.ba_cert.specs.Reading.{parts_of, step_at, step_in}
@@ -104,18 +102,8 @@ pub line-once : (step other : CertStep) → HasLine step → HasLine other → l
 line-once step other h k same = same_Some step other
     (sym (line-again step h) ∙ ap step_in same ∙ line-again other k)
 
--- what a reader answers that gives what reading gives
-
-pub found-line : (result : Result CertStep CertError) (line : List ℕ) →
-    Parses (λ (s : CertStep). s) result (step_in line) →
-    IfOk result (λ step. HasLine step × (line ≡ line_of step))
-found-line (Ok step) line gives = let r = line-back line step gives in (r.1, r.0)
-found-line (Err error) line gives = tt
-
-pub bad-line : (result : Result CertStep CertError) (line : List ℕ) →
-    Parses (λ (s : CertStep). s) result (step_in line) → result ≡ Err BadLine → (step : CertStep) →
-    HasLine step → line ≢ line_of step
-bad-line (Ok step) line gives is other h same = cc
-bad-line (Err BadLine) line gives is other h same = none-some other
-    (sym gives ∙ ap step_in same ∙ line-again other h)
-bad-line (Err Memory) line gives is other h same = cc
+-- what a line is read as
+pub step-read : (line : List ℕ) (read : Option CertStep) → read ≡ step_in line →
+    IsReading HasLine line_of line read
+step-read line None gives = λ step h same. none-some step (gives ∙ ap step_in same ∙ line-again step h)
+step-read line (Some step) gives = let r = line-back line step (sym gives) in (r.1, r.0)

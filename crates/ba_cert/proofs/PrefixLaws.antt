@@ -1,17 +1,16 @@
 -- A file that holds the first bytes of a certificate.
 
-use Rattle.std.proofs.Common.{◌≡◌, ◌⊎◌, inl, inr, ℕ, zero, suc, ◌+◌, ◌<◌, Option, None, Some, option_map, List, [], ◌∷◌, ◌++◌, length, take, drop, get_or, All, true, IfSome, refl, sym, ap, ◌∙◌, subst, append_assoc, append-nil, ◌≤◌, arith}
-use Rattle.std.proofs.lemmas.Grind.{flat_map-append}
+use Rattle.std.proofs.Common.{◌≡◌, ℕ, zero, suc, Option, None, Some, List, [], ◌∷◌, ◌++◌, length, take, All, true, IfSome, refl, sym, ap, ◌∙◌, subst, append-nil, arith}
 use Rattle.std.proofs.lemmas.List.Elements.{All-push, All-weaker}
-use Rattle.std.proofs.lemmas.List.{take_all, take_more, take-append-drop}
+use Rattle.std.proofs.lemmas.List.{take_all}
 use Rattle.ba_steps.specs.declared.step.CertStep.{CertStep}
 use Rattle.ba_steps.specs.Steps.{IsFormed}
 use Rattle.ba_world.specs.World.{AppendsPrefix, Outside}
 use Rattle.ba_cert.specs.declared.head.CertHead.{CertHead}
-use Rattle.ba_cert.specs.Text.{HasLine, IsHead, line_of, with_feed, head_text, step_lines, text_of}
+use Rattle.ba_cert.specs.Text.{HasLine, IsHead, line_of, with_feed, head_text, text_of}
 use Rattle.ba_cert.specs.Writing.{BeginsText, HoldsBeginning, IsPrefix, is_sound, is_written}
 use Rattle.ba_cert.proofs.CertificateLaws.{text-push}
-use Rattle.ba_cert.proofs.SinkLaws.{sound-is, text-sound}
+use Rattle.ba_cert.proofs.SinkLaws.{sound-written, text-sound}
 
 -- the first bytes of a text are the first of a longer one
 pub front-of : (count : ℕ) (a b : List ℕ) → IsPrefix (take count a) (a ++ b)
@@ -24,29 +23,7 @@ pub front-behind : (a b c : List ℕ) (count : ℕ) → IsPrefix (a ++ take coun
 front-behind [] b c count = front-of count b c
 front-behind (x ∷ a) b c count = let r = front-behind a b c count in (suc r.0, ap (λ r. x ∷ r) r.1)
 
--- without bytes a file is as before
-pub no-bytes : (kept : Option (List ℕ)) → kept ≡ option_map (λ text. text ++ []) kept
-no-bytes None = refl
-no-bytes (Some bytes) = ap (λ b. Some b) (sym (append-nil bytes))
-
 module _ (head : CertHead) where
-  -- the text of steps up to one of them, its line, and the lines of the others
-  text-at : (steps : List CertStep) (i : ℕ) (step : CertStep) → i < length steps → step ≡ get_or steps i step
-      → text_of head steps ≡ text_of head (take i steps) ++
-      (with_feed (line_of step) ++ step_lines (drop (i + 1) steps))
-  text-at steps i step within is =
-      let front : take (i + 1) steps ≡ take i steps ++ step ∷ [] =
-      take_more steps i step within ∙ ap (λ s. take i steps ++ s ∷ []) (sym is) in
-      ap (text_of head) (sym (take-append-drop (i + 1) steps))
-      ∙ ap (λ lines. head_text head ++ lines)
-      (flat_map-append (λ (s : CertStep). with_feed (line_of s)) (take (i + 1) steps) (drop (i + 1) steps))
-      ∙ sym (append_assoc (head_text head) (step_lines (take (i + 1) steps))
-      (step_lines (drop (i + 1) steps)))
-      ∙ ap (λ text. text ++ step_lines (drop (i + 1) steps))
-      (ap (text_of head) front ∙ text-push head (take i steps) step)
-      ∙ append_assoc (text_of head (take i steps)) (with_feed (line_of step))
-      (step_lines (drop (i + 1) steps))
-
   -- after the first bytes of the first lines
   pub begun-prefix : (old new : Option (List ℕ)) → IfSome old (λ bytes. bytes ≡ [])
       → AppendsPrefix old new (head_text head) → IfSome new (λ bytes. IsPrefix bytes (text_of head []))
@@ -62,49 +39,6 @@ module _ (head : CertHead) where
       IfSome kept (λ bytes. IsPrefix bytes (text_of head []))
   empty-prefix None empty = tt
   empty-prefix (Some bytes) empty = (0, empty)
-
-  -- after the first bytes of the line of the next step
-  pub added-prefix : (steps : List CertStep) (i : ℕ) (step : CertStep) (old new : Option (List ℕ))
-      → i < length steps → step ≡ get_or steps i step →
-      IfSome old (λ bytes. bytes ≡ text_of head (take i steps))
-      → AppendsPrefix old new (with_feed (line_of step)) →
-      IfSome new (λ bytes. IsPrefix bytes (text_of head steps))
-  added-prefix steps i step None new within is held prefix =
-      subst (λ kept. IfSome kept (λ bytes. IsPrefix bytes (text_of head steps))) (sym prefix.1) tt
-  added-prefix steps i step (Some bytes) new within is held prefix =
-      let front = front-behind (text_of head (take i steps)) (with_feed (line_of step))
-      (step_lines (drop (i + 1) steps)) prefix.0 in
-      subst (λ kept. IfSome kept (λ bytes. IsPrefix bytes (text_of head steps))) (sym prefix.1) (
-        front.0,
-        ap (λ b. b ++ take prefix.0 (with_feed (line_of step))) held ∙ front.1
-            ∙ ap (take front.0) (sym (text-at steps i step within is)),
-      )
-
-  -- the first bytes of the text of no step are the first of each
-  pub head-prefix : (steps : List CertStep) (kept : Option (List ℕ))
-      → IfSome kept (λ bytes. IsPrefix bytes (text_of head [])) →
-      IfSome kept (λ bytes. IsPrefix bytes (text_of head steps))
-  head-prefix steps None held = tt
-  head-prefix steps (Some bytes) held =
-      let front = front-of held.0 (head_text head) (step_lines steps) in
-      (front.0, held.1 ∙ ap (take held.0) (append-nil (head_text head)) ∙ front.1)
-
-  pub or-prefix : (unbegun : Type 0) (steps : List CertStep) (kept : Option (List ℕ))
-      → unbegun ⊎ IfSome kept (λ bytes. IsPrefix bytes (text_of head [])) →
-      unbegun ⊎ IfSome kept (λ bytes. IsPrefix bytes (text_of head steps))
-  or-prefix unbegun steps kept (inl not) = inl not
-  or-prefix unbegun steps kept (inr held) = inr (head-prefix steps kept held)
-
-  -- a whole text is some first bytes of it
-  pub whole-prefix : (kept : Option (List ℕ)) (steps : List CertStep) (i : ℕ) → length steps ≤ i
-      → IfSome kept (λ bytes. bytes ≡ text_of head (take i steps)) →
-      IfSome kept (λ bytes. IsPrefix bytes (text_of head steps))
-  whole-prefix None steps i all held = tt
-  whole-prefix (Some bytes) steps i all held = (
-    length (text_of head steps),
-    held ∙ ap (text_of head) (take_all i steps all)
-        ∙ sym (take_all (length (text_of head steps)) (text_of head steps) (omega arith)),
-  )
 
 -- A FILE HOLDS THE FIRST BYTES OF A CERTIFICATE
 
@@ -126,7 +60,7 @@ module _ (head : CertHead) (is : IsHead head) where
   -- a whole file does
   pub sound-begins : (name : List ℕ) (o : Outside) → is_sound head true name o ≡ true →
       HoldsBeginning head name o
-  sound-begins name o sound = ∣ by (o.kept name) (sym (sound-is head true name o) ∙ sound) ∣₁ where
+  sound-begins name o sound = ∣ by (o.kept name) (sound-written head true name o sound) ∣₁ where
     by : (kept : Option (List ℕ)) → is_written head true name o.is_writing o.writing kept ≡ true →
         IfSome kept (BeginsText head)
     by None e = tt
@@ -138,8 +72,8 @@ module _ (head : CertHead) (is : IsHead head) where
   pub line-begins : (step : CertStep) → HasLine step → (name : List ℕ) (o new : Outside) →
       is_sound head true name o ≡ true →
       AppendsPrefix (o.kept name) (new.kept name) (with_feed (line_of step)) → HoldsBeginning head name new
-  line-begins step h name o new sound prefix = ∣ by (o.kept name) (sym (sound-is head true name o)
-      ∙ sound) prefix ∣₁ where
+  line-begins step h name o new sound prefix = ∣ by (o.kept name) (sound-written head true name o sound)
+      prefix ∣₁ where
         by : (kept : Option (List ℕ)) → is_written head true name o.is_writing o.writing kept ≡ true →
             AppendsPrefix kept (new.kept name) (with_feed (line_of step)) →
             IfSome (new.kept name) (BeginsText head)

@@ -1,10 +1,11 @@
 -- The settings line is read as its settings, and a line that is read is that of what was read.
 
-use Rattle.std.proofs.Common.{◌≡◌, ◌≢◌, ℕ, ◌^◌, ◌<◌, ltb, true, cond, Option, None, Some, option_map, List, [], ◌∷◌, codes, decimal, bytes_eq, IfSome, refl, sym, ap, ◌∙◌, subst, arith}
+use Rattle.std.proofs.Common.{◌≡◌, ℕ, ◌^◌, ◌<◌, ltb, true, cond, Option, None, Some, option_map, List, [], ◌∷◌, codes, decimal, bytes_eq, refl, sym, ap, ◌∙◌, subst, arith}
 use Rattle.std.proofs.lemmas.Bool.{ltb-true, lt-ltb, and_from}
 use Rattle.std.proofs.lemmas.Option.{none-some, same_Some, cond_some}
 use Rattle.std.proofs.lemmas.Slice.Eq.{bytes_eq-Decides}
 use Rattle.ba_cert.specs.declared.head.CertHead.{CertHead}
+use Rattle.ba_cert.specs.Readers.{IsReading}
 use Rattle.ba_cert.specs.Text.{IsHead, joined, settings_line}
 use Rattle.ba_cert.specs.Reading.{◌>>=◌, if_below, has_more, number_of, small_of, next_by, head_with, head_by, head_at, settings_at, settings_in, parts_of}
 use Rattle.ba_cert.proofs.Binding.{bound, mapped, refused, passed}
@@ -171,14 +172,9 @@ pub settings-once : (h other : CertHead) → IsHead h → IsHead other → setti
 settings-once h other is formed same = same_Some h other
     (sym (settings-again h is) ∙ ap settings_in same ∙ settings-again other formed)
 
--- what a reader answers that gives what reading gives
-
-pub found-settings : (result : Option CertHead) (line : List ℕ) → result ≡ settings_in line →
-    IfSome result (λ h. IsHead h × (line ≡ settings_line h))
-found-settings None line gives = tt
-found-settings (Some h) line gives = let r = settings-back line h (sym gives) in (r.1, r.0)
-
-pub no-settings : (result : Option CertHead) (line : List ℕ) → result ≡ settings_in line → result ≡ None →
-    (h : CertHead) → IsHead h → line ≢ settings_line h
-no-settings result line gives none h is same =
-    none-some h (sym none ∙ gives ∙ ap settings_in same ∙ settings-again h is)
+-- what a line is read as
+pub settings-read : (line : List ℕ) (read : Option CertHead) → read ≡ settings_in line →
+    IsReading IsHead settings_line line read
+settings-read line None gives = λ h is same.
+    none-some h (gives ∙ ap settings_in same ∙ settings-again h is)
+settings-read line (Some h) gives = let r = settings-back line h (sym gives) in (r.1, r.0)

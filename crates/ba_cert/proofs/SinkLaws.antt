@@ -1,7 +1,7 @@
 -- A certificate in a file of a world, before and after a line is added.
 
-use Rattle.std.proofs.Common.{◌≡◌, ◌≢◌, ℕ, ◌+◌, Bool, true, false, ◌&&◌, is_some, Option, None, Some, option_map, List, [], ◌∷◌, ◌++◌, take, All, IfSome, IsSome, refl, sym, ap, ◌∙◌, subst, append-nil, arith, inl, inr, ◌⊎◌}
-use Rattle.std.proofs.lemmas.Bool.{and_parts, and_from}
+use Rattle.std.proofs.Common.{◌≡◌, ◌≢◌, ℕ, ◌^◌, ◌<◌, nat_lt, Bool, true, false, ◌&&◌, is_some, Option, None, Some, option_map, List, [], ◌∷◌, ◌++◌, take, All, IfSome, IsSome, refl, sym, ap, ◌∙◌, subst, append-nil, arith, inl, inr, ◌⊎◌}
+use Rattle.std.proofs.lemmas.Bool.{and_parts, and_from, lt-ltb, ltb-true}
 use Rattle.std.proofs.lemmas.List.Elements.{All-nil, All-push}
 use Rattle.std.proofs.lemmas.Option.{none-some, same_Some}
 use Rattle.std.proofs.lemmas.Slice.Eq.{bytes_eq-Decides}
@@ -350,30 +350,28 @@ module _ (head : CertHead) (is : IsHead head) where
       by (inl found) = inl (ap (steps_kept head) prefix.1 ∙ found ∙ sym (before t))
       by (inr found) = inr (ap (steps_kept head) prefix.1 ∙ found ∙ sym (ap (with_told step) (before t)))
 
-  -- a list of steps, one more
-  pub written-more : (steps : List CertStep) (i : ℕ) (step : CertStep) (old new : Option (List ℕ)) →
-      take (i + 1) steps ≡ take i steps ++ step ∷ [] →
-      IfSome old (λ bytes. bytes ≡ text_of head (take i steps)) → Appends old new (with_feed (line_of step)) →
-      IfSome new (λ bytes. bytes ≡ text_of head (take (i + 1) steps))
-  written-more steps i step None new more text added = subst
-      (λ k. IfSome k (λ b. b ≡ text_of head (take (i + 1) steps))) (sym added) tt
-  written-more steps i step (Some bytes) new more text added =
-      subst (λ k. IfSome k (λ b. b ≡ text_of head (take (i + 1) steps))) (sym added)
-      (ap (λ b. b ++ with_feed (line_of step)) text ∙ sym (text-push head (take i steps) step)
-      ∙ ap (text_of head) (sym more))
-
 -- OF THE OUTSIDE
 
-pub sound-is : (head : CertHead) (whole : Bool) (name : List ℕ) (o : Outside) →
-    is_sound head whole name o ≡ is_written head whole name o.is_writing o.writing (o.kept name)
+pub sound-countable : (head : CertHead) (whole : Bool) (name : List ℕ) (o : Outside) →
+    is_sound head whole name o ≡ true → head.conflicts < 2 ^ 62
 unfolding is_sound
-sound-is head whole name o = refl
+sound-countable head whole name o sound =
+    ltb-true head.conflicts (2 ^ 62) ((and_parts (nat_lt head.conflicts (2 ^ 62))
+    (is_written head whole name o.is_writing o.writing (o.kept name)) sound).0)
 
-pub sound-same : (head : CertHead) (whole : Bool) (name : List ℕ) (old new : Outside) → new.is_writing
-    ≡ old.is_writing →
-    new.writing ≡ old.writing →
-    is_written head whole name old.is_writing old.writing (new.kept name) ≡ true →
-    is_sound head whole name new ≡ true
-sound-same head whole name old new p q e =
-    sound-is head whole name new
-    ∙ as-before head whole name old.is_writing new.is_writing old.writing new.writing (new.kept name) p q e
+pub sound-written : (head : CertHead) (whole : Bool) (name : List ℕ) (o : Outside) →
+    is_sound head whole name o ≡ true →
+    is_written head whole name o.is_writing o.writing (o.kept name) ≡ true
+unfolding is_sound
+sound-written head whole name o sound =
+    (and_parts (nat_lt head.conflicts (2 ^ 62))
+    (is_written head whole name o.is_writing o.writing (o.kept name)) sound).1
+
+pub written-sound : (head : CertHead) (whole : Bool) (name : List ℕ) (o : Outside) →
+    head.conflicts < 2 ^ 62 → is_written head whole name o.is_writing o.writing (o.kept name) ≡ true →
+    is_sound head whole name o ≡ true
+unfolding is_sound
+written-sound head whole name o below written =
+    and_from (nat_lt head.conflicts (2 ^ 62))
+    (is_written head whole name o.is_writing o.writing (o.kept name))
+    (lt-ltb head.conflicts (2 ^ 62) below) written

@@ -3,3 +3,5 @@ pub mod Reading
 pub mod Readers
 pub mod Certificates
 pub mod Writing
+pub mod Sinks
+pub mod Writers

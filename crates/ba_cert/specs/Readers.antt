@@ -1,8 +1,13 @@
 -- What a reader answers, beside what reading gives.
 
-use Rattle.std.specs.Prelude.{◌≡◌, Option, None, Some, Result, Ok, Err}
+use Rattle.std.specs.Prelude.{◌≡◌, ◌≢◌, ℕ, List, Option, None, Some, Result, Ok, Err}
 use Rattle.ba_cert.specs.declared.error.CertError.{CertError}
 use Rattle.ba_cert.specs.declared.error.CertError.TheVariants.{BadLine, Memory}
+
+-- what a line is read as has this line; and nothing is read where nothing has it
+abbrev pub IsReading : {A : Type 0} → (A → Type 0) → (A → List ℕ) → List ℕ → Option A → Type 0
+IsReading P text line None = (a : _) → P a → line ≢ text a
+IsReading P text line (Some a) = P a × (line ≡ text a)
 
 -- an error is a bad line where reading gives nothing; want of memory says nothing
 abbrev pub Refuses : {Y : Type 0} → CertError → Option Y → Type 0

@@ -1,6 +1,6 @@
 -- The text of a derivation: two head lines, the second of which names the settings, and a line for each step.
 
-use Rattle.std.specs.Prelude.{ℕ, ◌^◌, ◌<◌, Bool, true, false, List, [], ◌∷◌, ◌++◌, map, flat_map, codes, decimal, All}
+use Rattle.std.specs.Prelude.{◌≡◌, ℕ, ◌^◌, ◌<◌, Bool, true, false, List, [], ◌∷◌, ◌++◌, map, flat_map, codes, decimal, All}
 use Rattle.ba_lits.specs.Literals.{Literal}
 use Rattle.ba_steps.specs.Steps.{IsFormed}
 use Rattle.ba_steps.specs.declared.step.CertStep.{CertStep}
@@ -73,6 +73,10 @@ old_head_line = codes "bugassist 1"
 
 abbrev pub old_text_of : List CertStep → List ℕ
 old_text_of steps = with_feed old_head_line ++ step_lines steps
+
+-- no text is that of two of these
+abbrev pub IsOfOne : {A : Type 0} → (A → Type 0) → (A → List ℕ) → Type 0
+IsOfOne P text = (a b : _) → P a → P b → text a ≡ text b → a ≡ b
 
 -- WHICH SETTINGS HAVE A LINE: those with conflicts below 2^62, and numbers of 32 bits, which their type keeps
 

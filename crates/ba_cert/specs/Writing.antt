@@ -1,13 +1,13 @@
 -- A certificate that is written to a file of a world, which may tell what it keeps under the file's name.
 
 use base.Fml.{GName}
-use Rattle.std.specs.Prelude.{◌≡◌, ℕ, Bool, true, false, ◌&&◌, is_some, Option, None, Some, option_and_then, List, [], ◌∷◌, take, bytes_eq, All, IfSome}
+use Rattle.std.specs.Prelude.{◌≡◌, ◌⊎◌, ℕ, ◌^◌, nat_lt, Bool, true, false, ◌&&◌, is_some, Option, None, Some, option_and_then, option_map, Result, Err, OnOk, List, [], ◌∷◌, take, bytes_eq, All, IfSome}
 use Rattle.ba_steps.specs.declared.sink.SinkError.{SinkError}
 use Rattle.ba_steps.specs.declared.sink.SinkError.TheVariants as sink
 use Rattle.ba_steps.specs.declared.step.CertStep.{CertStep}
 use Rattle.ba_steps.specs.Sinks.{Logs, Told}
 use Rattle.ba_steps.specs.Steps.{IsFormed}
-use Rattle.ba_world.specs.World.{Appends, AppendsPrefix, OnlyWrites, Outside, StaysBut}
+use Rattle.ba_world.specs.World.{HasWriteFault, OnlyWrites, Outside, StaysBut}
 use Rattle.ba_world.specs.declared.world.WorldError.{WorldError}
 use Rattle.ba_world.specs.declared.world.WorldError.TheVariants as world
 use Rattle.ba_cert.specs.declared.head.CertHead.{CertHead}
@@ -27,6 +27,13 @@ steps_kept h kept = option_and_then (steps_from h false) kept
 abbrev pub steps_at : CertHead → List ℕ → Outside → Option (List CertStep)
 steps_at h name outside = steps_kept h (outside.kept name)
 
+-- none, where the file is told; and the file is the text of them
+abbrev pub HasNoStep : CertHead → List ℕ → Outside → Type 0
+HasNoStep h name outside = steps_at h name outside ≡ option_map (λ _. []) (outside.kept name)
+
+abbrev pub HoldsLog : CertHead → List ℕ → Outside → Type 0
+HoldsLog h name outside = outside.kept name ≡ option_map (text_of h) (steps_at h name outside)
+
 -- as the one log of a sink
 abbrev pub logs_at : CertHead → List ℕ → Outside → Logs
 logs_at h name outside = steps_at h name outside ∷ []
@@ -40,16 +47,9 @@ told_at h name outside world = record {
   references = world ∷ [];
 }
 
--- the file of this name holds this text, where what it holds is told; and text was appended to it
+-- the file of this name holds this text, where what it holds is told
 abbrev pub Holds : List ℕ → List ℕ → Outside → Type 0
 Holds name text outside = IfSome (outside.kept name) (λ bytes. bytes ≡ text)
-
-abbrev pub AppendsTo : List ℕ → List ℕ → Outside → Outside → Type 0
-AppendsTo name text old new = Appends (old.kept name) (new.kept name) text
-
--- some first bytes of it were
-abbrev pub AppendsPrefixTo : List ℕ → List ℕ → Outside → Outside → Type 0
-AppendsPrefixTo name text old new = AppendsPrefix (old.kept name) (new.kept name) text
 
 -- the first bytes of a text; and the file of this name holds those of this one, where it is told
 abbrev pub IsPrefix : List ℕ → List ℕ → Type 0
@@ -75,8 +75,9 @@ abbrev pub may_be_named : List ℕ → Option (List ℕ) → Bool
 may_be_named name None = true
 may_be_named name (Some other) = bytes_eq other name
 
--- A file is being written, of this name as far as that is told. If what is kept under the name is told, it is
--- the two lines of these settings and those of steps; where it is whole, nothing stands after the last of them.
+-- These settings have a line, and a file is being written, of this name as far as that is told. If what is
+-- kept under the name is told, it is the two lines of the settings and those of steps; where it is whole,
+-- nothing stands after the last of them.
 abbrev pub is_written : CertHead → Bool → List ℕ → Bool → Option (List ℕ) → Option (List ℕ) → Bool
 is_written h whole name is_writing writing None = is_writing && may_be_named name writing
 is_written h whole name is_writing writing (Some bytes) =
@@ -84,7 +85,8 @@ is_written h whole name is_writing writing (Some bytes) =
 
 unfoldable pub is_sound : CertHead → Bool → List ℕ → Outside → Bool
 is_sound h whole name outside =
-    is_written h whole name outside.is_writing outside.writing (outside.kept name)
+    nat_lt h.conflicts (2 ^ 62)
+    && is_written h whole name outside.is_writing outside.writing (outside.kept name)
 
 -- the file of this name was not begun: none is being written, and what is kept under this name is as it was
 abbrev pub IsUnbegun : List ℕ → Outside → Outside → Type 0
@@ -95,6 +97,14 @@ pub record OnlyWritesTo (name : List ℕ) (old new : Outside) : Type 0 where
   pub held : StaysBut name old.held new.held
   pub kept : StaysBut name old.kept new.kept
   pub stays : OnlyWrites old new
+
+-- A text is written in place of the file of this name: the file then holds it; or it wasn't begun, or holds
+-- some first bytes. A failure comes only with a fault, and only this file is written.
+pub record Writes (name text : List ℕ) (result : Result Unit SinkError) (old new : Outside) : Type 0 where
+  pub whole : OnOk result (Holds name text new)
+  pub prefix : IsUnbegun name old new ⊎ HoldsPrefix name text new
+  pub cause : result ≡ Err sink.Failed → HasWriteFault old new
+  pub stays : OnlyWritesTo name old new
 
 -- settings that no call has
 abbrev pub no_head : CertHead

@@ -1,10 +1,11 @@
 //! What stands in the lists of a line.
 
-ghost use Rattle.std.specs.Prelude.{◌≡◌, ◌++◌, ℕ, List, [], Option, decimal, map, OnOk};
+ghost use Rattle.std.specs.Prelude.{◌≡◌, ℕ, List, [], Option, decimal, map};
 ghost use Rattle.ba_cert.specs.Text.{ended, literal_text};
 ghost use Rattle.ba_text.specs.Texts.{spaced};
 ghost use Rattle.ba_cert.specs.Reading.{ascends, counted_of, group_of, itself, listed, literal_of, variable_of};
 ghost use Rattle.ba_cert.specs.Readers.{Parses};
+ghost use Rattle.ba_cert.specs.Writers.{Adds};
 
 use crate::error::CertError;
 use crate::numerals::{counted_of, group_of, literal_of, sign_text};
@@ -27,7 +28,7 @@ pub(crate) trait Entry: Copy + Drop {
 
     /// Adds the part.
     fn push_text(&self, text: &mut Vec<u8>) -> Result<(), AllocError>
-        ensures { OnOk result (text.new.items ≡ text.old.items ++ spelled self.now) };
+        ensures { Adds result text.old text.new (spelled self.now) };
 
     /// What the part writes, if it writes one.
     fn of_part(part: &[u8]) -> Option<Self>
@@ -101,8 +102,7 @@ impl Entry for u32 {
 
 /// Adds the parts of a list, each after a space, and the part `0`.
 pub(crate) fn push_list<T: Entry>(items: &[T], text: &mut Vec<u8>) -> Result<(), AllocError>
-    ensures { OnOk result (text.new.items
-        ≡ text.old.items ++ spaced (ended (map T.spelled items.now))) }
+    ensures { Adds result text.old text.new (spaced (ended (map T.spelled items.now))) }
 {
     for item in items {
         text.extend_from_slice(b" ")?;

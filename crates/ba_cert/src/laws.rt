@@ -3,18 +3,16 @@
 ghost use Rattle.std.specs.Prelude.{◌≡◌, ◌≢◌, List, All};
 ghost use Rattle.ba_steps.specs.declared.step.CertStep.{CertStep};
 ghost use Rattle.ba_cert.specs.declared.head.CertHead.{CertHead};
-ghost use Rattle.ba_cert.specs.Text.{HasLine, IsHead, line_of, old_text_of, settings_line, text_of};
+ghost use Rattle.ba_cert.specs.Text.{HasLine, IsHead, IsOfOne, line_of, old_text_of, settings_line, text_of};
 
 /// No line is that of two steps: the law is the clause, and nothing is done.
 pub fn line_is_of_one_step()
-    ensures { (step other : CertStep) → HasLine step → HasLine other
-        → line_of step ≡ line_of other → step ≡ other }
+    ensures { IsOfOne HasLine line_of }
 {}
 
 /// No line is that of two settings: the law is the clause, and nothing is done.
 pub fn settings_line_is_of_one_head()
-    ensures { (h other : CertHead) → IsHead h → IsHead other
-        → settings_line h ≡ settings_line other → h ≡ other }
+    ensures { IsOfOne IsHead settings_line }
 {}
 
 /// No certificate is the text of two settings or of two lists of steps: the law is the clause, and nothing
@@ -27,8 +25,6 @@ pub fn text_is_of_one_derivation()
 
 /// The same of version 1, and no text is of both versions: the laws are the clauses, and nothing is done.
 pub fn old_text_is_of_one_derivation()
-    ensures once { (steps others : List CertStep) → All HasLine steps → All HasLine others
-        → old_text_of steps ≡ old_text_of others → steps ≡ others }
-    ensures apart { (h : CertHead) (steps others : List CertStep)
-        → text_of h steps ≢ old_text_of others }
+    ensures once { IsOfOne (All HasLine) old_text_of }
+    ensures apart { (h : CertHead) (new old : List CertStep) → text_of h new ≢ old_text_of old }
 {}

@@ -21,5 +21,5 @@ pub use error::CertError;
 pub use head::CertHead;
 pub use reader::read_line;
 pub use settings::read_settings;
-pub use text_sink::{CertSink, Start, TextSink, begin_text, write_text};
+pub use text_sink::{CertSink, Start, TextSink, begin_text};
 pub use writer::{head_text, step_text};

@@ -1,6 +1,6 @@
 //! Numbers, literals and values as parts of a line.
 
-ghost use Rattle.std.specs.Prelude.{◌≡◌, ◌^◌, ◌<◌, ◌≤◌, pos, neg_ℤ, option_map, IfSome};
+ghost use Rattle.std.specs.Prelude.{◌≡◌, ◌^◌, ◌<◌, ◌≤◌, option_map, IfSome};
 ghost use Rattle.ba_cert.specs.Text.{sign_text};
 ghost use Rattle.ba_cert.specs.Reading.{after_minus, counted_of, group_of, if_below, leads_with_zero, literal_of, number_of, small_of, value_of};
 
@@ -95,30 +95,14 @@ pub(crate) fn literal_of(part: &[u8]) -> Option<Lit>
     }
 }
 
-/// The number with a minus sign.
-fn minus(number: u64) -> i64
-    requires { number < 2 ^ 62 }
-    ensures { result ≡ neg_ℤ (pos number) }
-{
-    -(number as i64)
-}
-
-/// The same number, with a sign.
-fn plus(number: u64) -> i64
-    requires { number < 2 ^ 62 }
-    ensures { result ≡ pos number }
-{
-    number as i64
-}
-
 /// A value of a choice: a number, with a minus sign before it where it is negative.
 #[tactic(auto, unfolding(crate::specs::Reading::value_of))]
 pub(crate) fn value_of(part: &[u8]) -> Option<i64>
     ensures { result ≡ value_of part.now }
 {
     match after_minus(part) {
-        Some(digits) => Some(minus(counted_of(digits)?)),
-        None => Some(plus(number_of(part)?)),
+        Some(digits) => Some(-(counted_of(digits)? as i64)),
+        None => Some(number_of(part)? as i64),
     }
 }
 

@@ -1,6 +1,6 @@
 //! The parts of a line.
 
-ghost use Rattle.std.specs.Prelude.{◌≡◌, ◌<◌, ◌∷◌, [], length, position, MatchOption, IfSome};
+ghost use Rattle.std.specs.Prelude.{◌≡◌, ◌<◌, ◌∷◌, [], length, position, IfSome};
 ghost use Rattle.std.specs.Option.{option_map_or};
 ghost use Rattle.ba_cert.specs.Reading.{has_more, is_space, letter_at, letter_of, parts_of};
 ghost use Rattle.ba_cert.specs.Readers.{Parses};
@@ -35,12 +35,11 @@ impl<'a> Parts<'a> {
 
     /// The next part, if one is left.
     pub(crate) fn next_part(&mut self) -> Option<&'a [u8]>
-        ensures { MatchOption result ((self.old ≡ []) × (self.new ≡ []))
-            (λ part. self.old ≡ part.now ∷ self.new) }
+        ensures { self.old ≡ option_map_or (λ part. part.now ∷ self.new) result [] }
     {
         let line = self.rest?;
         let (part, rest) = cut(line);
-        self.rest = rest;
+        *self = rest;
         Some(part)
     }
 }
@@ -53,14 +52,13 @@ fn space_in(line: &[u8]) -> Option<usize>
     line.iter().position(|byte| *byte == b' ')
 }
 
-/// The part that a line begins with, and what stands after the space that ends it, if one does.
-fn cut(line: &[u8]) -> (&[u8], Option<&[u8]>)
-    ensures { parts_of line.now
-        ≡ result.0.now ∷ option_map_or (λ rest. parts_of rest.now) result.1 [] }
+/// The part that a line begins with, and those after it.
+fn cut(line: &[u8]) -> (&[u8], Parts<'_>)
+    ensures { parts_of line.now ≡ result.0.now ∷ result.1 }
 {
     match space_in(line) {
-        Some(place) => (&line[..place], Some(&line[place + 1..])),
-        None => (line, None),
+        Some(place) => (&line[..place], Parts::new(&line[place + 1..])),
+        None => (line, Parts { rest: None }),
     }
 }
 

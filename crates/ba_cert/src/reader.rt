@@ -1,10 +1,9 @@
 //! Reading the line of a step.
 
-ghost use Rattle.std.specs.Prelude.{◌≡◌, ◌≢◌, None, Some, cond, IfOk};
-ghost use Rattle.ba_steps.specs.declared.step.CertStep.{CertStep};
+ghost use Rattle.std.specs.Prelude.{None, Some, cond};
 ghost use Rattle.ba_cert.specs.Text.{HasLine, line_of};
 ghost use Rattle.ba_cert.specs.Reading.{alone, block_at, clause_at, core_at, delete_at, end_at, end_by, learn_at, located_at, no_repair_at, step_at, step_by, step_in};
-ghost use Rattle.ba_cert.specs.Readers.{Parses};
+ghost use Rattle.ba_cert.specs.Readers.{IsReading, Parses};
 
 use crate::choices::run_at;
 use crate::entry::{ascends, list_at};
@@ -151,27 +150,15 @@ fn step_at(alloc: Global, parts: &mut Parts) -> Result<CertStep, CertError>
     step_by(alloc, letter, parts)
 }
 
-/// The step of a line, by the function that reads its parts.
-fn step_in(alloc: Global, line: &[u8]) -> Result<CertStep, CertError>
-    ensures { Parses (λ step. step) result (step_in line.now) }
-{
-    let mut parts = Parts::new(line);
-    step_at(alloc, &mut parts)
-}
-
 /// The step whose line this is, without its line feed. It is formed.
 ///
 /// `BadLine` comes exactly where no step has this line. The other error is want of memory.
 pub fn read_line(alloc: Global, line: &[u8]) -> Result<CertStep, CertError>
-    // What is read has this line.
-    ensures found { IfOk result (λ step. HasLine step × (line.now ≡ line_of step)) }
-
-    // What has this line is read.
-    ensures bad_line { result ≡ Err CertError.BadLine
-        → (step : CertStep) → HasLine step → line.now ≢ line_of step }
-
-    // The same by a function of the line.
     ensures exact { Parses (λ step. step) result (step_in line.now) }
+
+    // What the function reads has this line, and what has this line is read.
+    ensures reads { IsReading HasLine line_of line.now (step_in line.now) }
 {
-    step_in(alloc, line)
+    let mut parts = Parts::new(line);
+    step_at(alloc, &mut parts)
 }

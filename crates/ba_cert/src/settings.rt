@@ -1,7 +1,7 @@
 //! Reading the settings line of a certificate.
 
-ghost use Rattle.std.specs.Prelude.{◌≡◌, ◌≢◌, ◌<◌, ◌^◌, None, option_map, IfSome};
-ghost use Rattle.ba_cert.specs.declared.head.CertHead.{CertHead};
+ghost use Rattle.std.specs.Prelude.{◌≡◌, option_map};
+ghost use Rattle.ba_cert.specs.Readers.{IsReading};
 ghost use Rattle.ba_cert.specs.Text.{IsHead, settings_line};
 ghost use Rattle.ba_cert.specs.Reading.{head_at, next_by, number_of, settings_at, settings_in, small_of};
 
@@ -12,8 +12,7 @@ use ba_tree::run::Bounds;
 
 /// The next part, a number below 2^62.
 fn next_number(parts: &mut Parts) -> Option<u64>
-    ensures value { option_map (λ n. (n, parts.new)) result ≡ next_by number_of parts.old }
-    ensures below { IfSome result (λ number. number < 2 ^ 62) }
+    ensures { option_map (λ n. (n, parts.new)) result ≡ next_by number_of parts.old }
 {
     let part = parts.next_part()?;
     number_of(part)
@@ -57,27 +56,15 @@ fn settings_at(parts: &mut Parts) -> Option<CertHead>
     head_at(parts)
 }
 
-/// The settings of a line, by the function that reads its parts.
-fn settings_in(line: &[u8]) -> Option<CertHead>
-    ensures { result ≡ settings_in line.now }
-{
-    let mut parts = Parts::new(line);
-    settings_at(&mut parts)
-}
-
 /// The settings whose line this is, without its line feed. It takes no memory.
 ///
 /// `None` comes exactly where no settings have this line.
 pub fn read_settings(line: &[u8]) -> Option<CertHead>
-    // What is read has this line.
-    ensures found { IfSome result (λ head. IsHead head × (line.now ≡ settings_line head)) }
-
-    // What has this line is read.
-    ensures none { result ≡ None
-        → (head : CertHead) → IsHead head → line.now ≢ settings_line head }
-
-    // The same by a function of the line.
     ensures exact { result ≡ settings_in line.now }
+
+    // What is read has this line, and what has this line is read.
+    ensures reads { IsReading IsHead settings_line line.now result }
 {
-    settings_in(line)
+    let mut parts = Parts::new(line);
+    settings_at(&mut parts)
 }

@@ -1,12 +1,13 @@
 //! A certificate that is written as its steps are made.
 
-ghost use Rattle.std.specs.Prelude.{◌≡◌, ◌⊎◌, ◌<◌, ◌≤◌, ◌++◌, ◌+◌, ◌^◌, ◌&&◌, bytes_eq, ℕ, List, true, false, [], ◌∷◌, None, Some, option_map, All, OnOk, OnErr};
-ghost use Rattle.ba_world.specs.World.{HasWriteFault, Outside};
+ghost use base.Fml.{GName};
+ghost use Rattle.std.specs.Prelude.{◌≡◌, ◌<◌, ◌≤◌, ◌^◌, ◌&&◌, bytes_eq, is_ok, ℕ, List, true, false, [], OnOk, OnErr};
+ghost use Rattle.ba_world.specs.World.{Outside};
 ghost use Rattle.ba_cert.specs.declared.head.CertHead.{CertHead};
 ghost use Rattle.ba_steps.specs.Steps.{IsFormed};
-ghost use Rattle.ba_steps.specs.Sinks.{MayAdd, RefusesInTurn, Takes, told_by_both, with_told};
-ghost use Rattle.ba_cert.specs.Text.{line_of, text_of, with_feed};
-ghost use Rattle.ba_cert.specs.Writing.{AppendsPrefixTo, AppendsTo, Holds, HoldsBeginning, HoldsPrefix, IsUnbegun, OnlyWritesTo, is_sound, logs_at, no_head, nothing_told, sink_error, steps_at, told_at};
+ghost use Rattle.ba_steps.specs.Sinks.{RefusesInTurn, Takes};
+ghost use Rattle.ba_cert.specs.Text.{text_of};
+ghost use Rattle.ba_cert.specs.Writing.{HasNoStep, HoldsBeginning, HoldsLog, OnlyWritesTo, Writes, is_sound, no_head, nothing_told, sink_error, told_at};
 
 use crate::head::CertHead;
 use crate::writer::{groups_have_32_bits, head_text, is_head, step_text};
@@ -38,14 +39,9 @@ pub fn begin_text<W: World>(
 ) -> Result<(), SinkError>
     requires countable { head.now.conflicts < 2 ^ 62 }
     ensures sound { OnOk result (is_sound head.now true name.now (W.outside world.new) ≡ true) }
-    ensures head { OnOk result (Holds name.now (text_of head.now []) (W.outside world.new)) }
-    ensures no_step { OnOk result (steps_at head.now name.now (W.outside world.new)
-        ≡ option_map (λ _. []) ((W.outside world.new).kept name.now)) }
-    ensures prefix { IsUnbegun name.now (W.outside world.old) (W.outside world.new)
-        ⊎ HoldsPrefix name.now (text_of head.now []) (W.outside world.new) }
-    ensures cause { result ≡ Err SinkError.Failed
-        → HasWriteFault (W.outside world.old) (W.outside world.new) }
-    ensures stays { OnlyWritesTo name.now (W.outside world.old) (W.outside world.new) }
+    ensures no_step { OnOk result (HasNoStep head.now name.now (W.outside world.new)) }
+    ensures writes { Writes name.now (text_of head.now []) result
+        (W.outside world.old) (W.outside world.new) }
 {
     // So these settings have a line.
     is_head(head);
@@ -67,23 +63,13 @@ fn add_line<W: World>(
     head: &CertHead,
     step: &CertStep,
 ) -> Result<(), SinkError>
-    requires countable { head.now.conflicts < 2 ^ 62 }
     requires formed { IsFormed step.now }
     requires sound { is_sound head.now true name.now (W.outside world.old) ≡ true }
-    ensures sound { OnOk result (is_sound head.now true name.now (W.outside world.new) ≡ true) }
-    ensures still { is_sound head.now false name.now (W.outside world.new) ≡ true }
-    ensures added { OnOk result (AppendsTo name.now (with_feed (line_of step.now))
-        (W.outside world.old) (W.outside world.new)) }
-    ensures prefix { AppendsPrefixTo name.now (with_feed (line_of step.now))
-        (W.outside world.old) (W.outside world.new) }
-    ensures told { OnOk result (steps_at head.now name.now (W.outside world.new)
-        ≡ with_told step.now (steps_at head.now name.now (W.outside world.old))) }
-    ensures refused { OnErr result (MayAdd step.now
-        (steps_at head.now name.now (W.outside world.old))
-        (steps_at head.now name.now (W.outside world.new))) }
+    ensures sound { is_sound head.now (is_ok result) name.now (W.outside world.new) ≡ true }
+    ensures takes { (reference : GName) → Takes step.now result
+        (told_at head.now name.now (W.outside world.old) reference)
+        (told_at head.now name.now (W.outside world.new) reference) }
     ensures begins { HoldsBeginning head.now name.now (W.outside world.new) }
-    ensures cause { result ≡ Err SinkError.Failed
-        → HasWriteFault (W.outside world.old) (W.outside world.new) }
     ensures stays { OnlyWritesTo name.now (W.outside world.old) (W.outside world.new) }
 {
     is_head(head);
@@ -91,34 +77,6 @@ fn add_line<W: World>(
     let line = step_text(alloc, step)?;
     if let Err(error) = world.add(line.as_slice()) {
         return Err(sink_error(error));
-    }
-    Ok(())
-}
-
-/// Writes the certificate of these steps under a name, in place of a file that is there.
-///
-/// `Failed` comes only where the world's faults of writing rose in this call, and the other error
-/// is want of memory. A file that was begun then holds a prefix of the certificate.
-pub fn write_text<W: World>(
-    alloc: Global,
-    world: &mut W,
-    name: &str,
-    head: &CertHead,
-    steps: &[CertStep],
-) -> Result<(), SinkError>
-    requires countable { head.now.conflicts < 2 ^ 62 }
-    requires formed { All IsFormed steps.now }
-    ensures whole { OnOk result
-        (Holds name.now (text_of head.now steps.now) (W.outside world.new)) }
-    ensures prefix { IsUnbegun name.now (W.outside world.old) (W.outside world.new)
-        ⊎ HoldsPrefix name.now (text_of head.now steps.now) (W.outside world.new) }
-    ensures cause { result ≡ Err SinkError.Failed
-        → HasWriteFault (W.outside world.old) (W.outside world.new) }
-    ensures stays { OnlyWritesTo name.now (W.outside world.old) (W.outside world.new) }
-{
-    begin_text(alloc, world, name, head)?;
-    for step in steps {
-        add_line(alloc, world, name, head, step)?;
     }
     Ok(())
 }
@@ -166,7 +124,6 @@ pub struct TextSink<'a, W: World, S: Start> {
     /// No step was refused.
     whole: bool,
     start: PhantomData<S>,
-    ghost countable: { head.conflicts < 2 ^ 62 },
     ghost sound: { is_sound head whole name.now (W.outside world.now) ≡ true },
     ghost named: { name.now ≡ S.name },
     ghost headed: { head ≡ S.head },
@@ -178,7 +135,6 @@ impl<'a, W: World, S: Start> TextSink<'a, W, S> {
     /// A sink over a file that [`begin_text`] has begun, in a world that is still the same. It
     /// takes no memory.
     pub fn new(alloc: Global, world: &'a mut W, name: &'a str, head: CertHead) -> TextSink<'a, W, S>
-        requires countable { head.conflicts < 2 ^ 62 }
         requires sound { is_sound head true name.now (W.outside world.old) ≡ true }
         requires named { name.now ≡ S.name }
         requires headed { head ≡ S.head }
@@ -205,9 +161,8 @@ impl<'a, W: World, S: Start> TextSink<'a, W, S> {
     pub fn is_whole(&self, name: &str) -> bool
         ensures exactly { result ≡ self.now.whole && bytes_eq self.now.name.now name.now }
         ensures named { result ≡ true → name.now ≡ self.now.name.now }
-        ensures whole { result ≡ true → (W.outside self.now.world.now).kept name.now
-            ≡ option_map (text_of self.now.head)
-            (steps_at self.now.head name.now (W.outside self.now.world.now)) }
+        ensures whole { result ≡ true
+            → HoldsLog self.now.head name.now (W.outside self.now.world.now) }
     {
         is_head(&self.head);
         self.whole && self.name == name
@@ -215,8 +170,9 @@ impl<'a, W: World, S: Start> TextSink<'a, W, S> {
 }
 
 impl<'a, W: World, S: Start> StepSink for TextSink<'a, W, S> {
-    ghost told = { λ sink. told_at sink.head sink.name.now (W.outside sink.world.now)
-        sink.world.ghost_name };
+    ghost use Rattle.ba_cert.specs.Sinks.{text_told};
+
+    ghost told = { text_told W.outside };
 
     fn begin(&mut self, _formula: &Formula, _softs: &[(Lit, u32)]) -> Result<(), SinkError>
         ensures never { result ≡ Ok tt }
@@ -230,15 +186,11 @@ impl<'a, W: World, S: Start> StepSink for TextSink<'a, W, S> {
     #[tactic(auto, using(crate::proofs::SinkLaws::stays_then))]
     fn take(&mut self, step: &CertStep) -> Result<(), SinkError>
         requires formed { IsFormed step.now }
-        ensures whole { OnOk result (self.new.whole ≡ true) }
-        ensures not_whole { OnErr result (self.new.whole ≡ false) }
-        ensures again { self.old.whole ≡ false
-            → (result ≡ Err SinkError.Memory) × (self.new ≡ self.old) }
+        ensures whole { self.new.whole ≡ is_ok result }
+        ensures again { self.old.whole ≡ false → result ≡ Err SinkError.Memory }
+        ensures unchanged { self.old.whole ≡ false → self.new ≡ self.old }
         ensures takes { Takes step.now result
-            (told_at self.old.head self.old.name.now (W.outside self.old.world.now)
-            self.old.world.ghost_name)
-            (told_at self.new.head self.new.name.now (W.outside self.new.world.now)
-            self.new.world.ghost_name) }
+            (text_told W.outside self.old) (text_told W.outside self.new) }
     {
         if !self.whole {
             return Err(SinkError::Memory);
@@ -260,9 +212,9 @@ pub struct CertSink<'a, 'b, W: World, S: Start, D: StepSink> {
 }
 
 impl<'a, 'b, W: World, S: Start, D: StepSink> StepSink for CertSink<'a, 'b, W, S, D> {
-    ghost told = { λ sink. told_by_both sink.next.ghost_name
-        (told_at sink.text.head sink.text.name.now (W.outside sink.text.world.now)
-        sink.text.world.ghost_name) (D.told sink.next.now) };
+    ghost use Rattle.ba_cert.specs.Sinks.{cert_told, text_told};
+
+    ghost told = { cert_told W.outside D.told };
 
     fn begin(&mut self, formula: &Formula, softs: &[(Lit, u32)]) -> Result<(), SinkError> {
         self.next.begin(formula, softs)
@@ -271,17 +223,9 @@ impl<'a, 'b, W: World, S: Start, D: StepSink> StepSink for CertSink<'a, 'b, W, S
     fn take(&mut self, step: &CertStep) -> Result<(), SinkError>
         requires formed { IsFormed step.now }
         ensures takes { Takes step.now result
-            (told_by_both self.old.next.ghost_name
-            (told_at self.old.text.head self.old.text.name.now (W.outside self.old.text.world.now)
-            self.old.text.world.ghost_name) (D.told self.old.next.now))
-            (told_by_both self.new.next.ghost_name
-            (told_at self.new.text.head self.new.text.name.now (W.outside self.new.text.world.now)
-            self.new.text.world.ghost_name) (D.told self.new.next.now)) }
+            (cert_told W.outside D.told self.old) (cert_told W.outside D.told self.new) }
         ensures in_turn { OnErr result (RefusesInTurn step.now
-            (logs_at self.old.text.head self.old.text.name.now
-            (W.outside self.old.text.world.now))
-            (logs_at self.new.text.head self.new.text.name.now
-            (W.outside self.new.text.world.now))
+            (text_told W.outside self.old.text).logs (text_told W.outside self.new.text).logs
             (D.told self.old.next.now).logs (D.told self.new.next.now).logs) }
     {
         self.text.take(step)?;

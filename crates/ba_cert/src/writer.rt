@@ -1,7 +1,8 @@
 //! Writing the line of a step.
 
-ghost use Rattle.std.specs.Prelude.{◌≡◌, ◌++◌, ◌^◌, ◌<◌, ◌∷◌, [], decimal, All, IfOk, OnOk};
+ghost use Rattle.std.specs.Prelude.{◌≡◌, ◌++◌, ◌^◌, ◌<◌, ◌∷◌, [], decimal, All, IfOk};
 ghost use Rattle.ba_cert.specs.Text.{HasSmallGroups, IsHead, clause_parts, head_text, line_of, settings_line, with_feed};
+ghost use Rattle.ba_cert.specs.Writers.{Adds};
 ghost use Rattle.ba_text.specs.Texts.{spaced};
 
 use crate::entry::push_list;
@@ -11,24 +12,23 @@ use ba_steps::CertStep;
 use ba_text::{push_choices, push_number};
 use std::alloc::{AllocError, Global};
 
-/// Adds letters, and then literals and hints, each part after a space.
+/// Adds the letters of a kind of step, and then literals and hints, each part after a space.
 fn push_clause(
-    letters: &[u8],
+    kind: &[u8],
     lits: &[Lit],
     hints: &[u64],
     text: &mut Vec<u8>,
 ) -> Result<(), AllocError>
-    ensures { OnOk result (text.new.items
-        ≡ text.old.items ++ (letters.now ++ spaced (clause_parts lits.now hints.now))) }
+    ensures { Adds result text.old text.new (kind.now ++ spaced (clause_parts lits.now hints.now)) }
 {
-    text.extend_from_slice(letters)?;
+    text.extend_from_slice(kind)?;
     push_list(lits, text)?;
     push_list(hints, text)
 }
 
 /// Adds the line of a step, without its line feed.
 fn push_line(step: &CertStep, text: &mut Vec<u8>) -> Result<(), AllocError>
-    ensures { OnOk result (text.new.items ≡ text.old.items ++ line_of step.now) }
+    ensures { Adds result text.old text.new (line_of step.now) }
 {
     match step {
         CertStep::Learn { lits, hints } => {
@@ -72,7 +72,7 @@ pub fn step_text(alloc: Global, step: &CertStep) -> Result<Vec<u8>, AllocError>
 
 /// Adds a number after a space.
 fn push_spaced(number: u64, text: &mut Vec<u8>) -> Result<(), AllocError>
-    ensures { OnOk result (text.new.items ≡ text.old.items ++ spaced (decimal number ∷ [])) }
+    ensures { Adds result text.old text.new (spaced (decimal number ∷ [])) }
 {
     text.extend_from_slice(b" ")?;
     push_number(number, text)
@@ -80,7 +80,7 @@ fn push_spaced(number: u64, text: &mut Vec<u8>) -> Result<(), AllocError>
 
 /// Adds the settings line, without its line feed.
 fn push_settings(head: &CertHead, text: &mut Vec<u8>) -> Result<(), AllocError>
-    ensures { OnOk result (text.new.items ≡ text.old.items ++ settings_line head.now) }
+    ensures { Adds result text.old text.new (settings_line head.now) }
 {
     text.extend_from_slice(b"b")?;
     push_spaced(u64::from(head.bounds.turns), text)?;
@@ -109,8 +109,7 @@ fn has_32_bits(number: u32)
 
 /// Says what the type of settings keeps, beside the conflicts: these settings have a line.
 pub(crate) fn is_head(head: &CertHead)
-    requires { head.now.conflicts < 2 ^ 62 }
-    ensures { IsHead head.now }
+    ensures { head.now.conflicts < 2 ^ 62 → IsHead head.now }
 {
     has_32_bits(head.bounds.turns);
     has_32_bits(head.bounds.frames);

@@ -1,6 +1,6 @@
 -- What the code keeps, line by line and piece by piece.
 
-use Rattle.std.proofs.Common.{◌≡◌, ℕ, ◌+◌, ◌<◌, ◌≤◌, ltb, Bool, true, false, cond, Option, None, Some, Result, Err, List, [], ◌∷◌, ◌++◌, length, take, drop, get_or, refl, sym, ap, ◌∙◌, subst, arith, position}
+use Rattle.std.proofs.Common.{◌≡◌, ℕ, ◌+◌, ◌<◌, ◌≤◌, ltb, Bool, true, false, cond, Option, None, Some, Result, Ok, Err, List, [], ◌∷◌, ◌++◌, length, take, drop, get_or, refl, sym, ap, ◌∙◌, subst, arith, position}
 use Rattle.std.specs.List.{after_first, before_first, position_or_len}
 use Rattle.std.proofs.lemmas.Bool.{eqb-true, ltb-false, ltb-true}
 use Rattle.std.proofs.lemmas.List.{get_or-take, length-take}
@@ -11,7 +11,7 @@ use Rattle.ba_cert.specs.Reading.{settings_in, step_in}
 use Rattle.ba_cert.specs.declared.head.CertHead.{CertHead}
 use Rattle.ba_derivations.specs.Derivations.{Problem}
 use Rattle.ba_choices.specs.Judges.{Judge}
-use Rattle.ba_check.specs.Answers.{Tells, TellsRefusal}
+use Rattle.ba_check.specs.Answers.{Tells}
 use Rattle.ba_check.specs.Findings.{Course, after_head, after_line, after_lines, after_read, after_settings, course_of, finding_by, finding_of, first_refused, refusal_in}
 use Rattle.ba_check.specs.Lines.{HasNoFeed, IsCut, lines_in, rest_in}
 use Rattle.ba_check.specs.Readings.{Confirming, Follows, HasRead, Keeps, KeepsWith, answer_by, course_at, course_kept}
@@ -21,7 +21,7 @@ use Rattle.ba_check.specs.declared.error.CheckError.TheVariants.{Line, Memory}
 use Rattle.ba_check.specs.declared.judged.Judged.{Judged}
 use Rattle.ba_check.specs.declared.judged.Stage.{Stage}
 use Rattle.ba_check.specs.declared.judged.Stage.TheVariants as stage
-use Rattle.ba_check.proofs.CourseLaws.{course-append, refused-found, refused-stays, stopped-by}
+use Rattle.ba_check.proofs.CourseLaws.{TellsRefusal, course-append, refused-found, refused-stays, stopped-by}
 use Rattle.ba_check.proofs.LineLaws.{all-rest, cut-lines, cut-rest, no-line, rest-append, rest-plain}
 
 -- CUTS at the first line feed
@@ -116,19 +116,17 @@ module _ (head : CertHead) (good : Judge) (old : Course) (rest piece : List ℕ)
         same_rest = way.same_rest ∙ cut-rest kept left end behind way.plain cut;
       })
 
-  pub line-refused : (new later : Judged) (bytes wanted end behind : List ℕ) (error : CheckError) →
+  pub line-refused : (new later : Judged) (bytes end behind : List ℕ) (error : CheckError) →
       IsCut left end behind → Keeps (Err error) new (after_line head good now (kept ++ end)) →
-      KeepsWith (Err error) later bytes (after_lines head good old (lines_in (rest ++ piece))) wanted
-  line-refused new later bytes wanted end behind (Line number code) cut keeps =
+      KeepsWith (Err error) later bytes (after_lines head good old) (rest ++ piece)
+  line-refused new later bytes end behind (Line number code) cut keeps =
       way.lines
       ∙ ap (after_lines head good now) (cut-lines kept left end behind way.plain cut)
       ∙ stopped-by head good (after_line head good now (kept ++ end)) number code (lines_in behind) keeps
-  line-refused new later bytes wanted end behind Memory cut keeps = tt
+  line-refused new later bytes end behind Memory cut keeps = tt
 
   pub piece-ends : (new : Judged) (bytes : List ℕ) → now ≡ course_kept new → bytes ≡ kept ++ left →
-      HasNoFeed left →
-      (after_lines head good old (lines_in (rest ++ piece)) ≡ course_kept new) ×
-      (bytes ≡ rest_in (rest ++ piece))
+      HasNoFeed left → KeepsWith (Ok tt) new bytes (after_lines head good old) (rest ++ piece)
   piece-ends new bytes is all plain =
       let both : HasNoFeed (kept ++ left) = All-append (λ b. is_line_end b ≡ false) kept left way.plain
       plain in (
@@ -188,24 +186,22 @@ unrefused stage.Settings judged = refl
 unrefused stage.Steps judged = refl
 
 follows-by : (head : CertHead) (p : Problem) (text : List ℕ) (refusal : Option CheckError) (new : Judged)
-    (rest : List ℕ)
-    (course : Course) (wanted : List ℕ) → course ≡ course_of head p text → wanted ≡ rest_in text →
-    KeepsWith (answer_by refusal) new rest course wanted → Follows head p text (course_kept new) rest refusal
-follows-by head p text None new rest course wanted is all keeps =
+    (rest : List ℕ) (course : List (List ℕ) → Course) (bytes : List ℕ) →
+    course (lines_in bytes) ≡ course_of head p text → rest_in bytes ≡ rest_in text →
+    KeepsWith (answer_by refusal) new rest course bytes → Follows head p text (course_kept new) rest refusal
+follows-by head p text None new rest course bytes is all keeps =
     let same : course_kept new ≡ course_of head p text = sym keeps.0 ∙ is in
     (same, keeps.1 ∙ all, ap refusal_in (sym same) ∙ unrefused new.stage new)
-follows-by head p text (Some (Line number code)) new rest course wanted is all keeps = ap refusal_in (sym is ∙
-    keeps)
-follows-by head p text (Some Memory) new rest course wanted is all keeps = tt
+follows-by head p text (Some (Line number code)) new rest course bytes is all keeps =
+    ap refusal_in (sym is ∙ keeps)
+follows-by head p text (Some Memory) new rest course bytes is all keeps = tt
 
 pub piece-read : (head : CertHead) (p : Problem) (text piece : List ℕ) (reader : Confirming)
     (own : CertHead) (good : Judge) (new : Judged)
     (rest : List ℕ) (refusal : Option CheckError) → HasRead head p text reader → reader.refusal ≡ None →
     own ≡ reader.head → good ≡ reader.good →
-    KeepsWith (answer_by refusal) new rest
-    (after_lines reader.head reader.good reader.course (lines_in (reader.rest ++
-    piece)))
-    (rest_in (reader.rest ++ piece)) →
+    KeepsWith (answer_by refusal) new rest (after_lines reader.head reader.good reader.course)
+    (reader.rest ++ piece) →
     HasRead head p (text ++ piece)
     (record { head = own; good = good; course = course_kept new; rest = rest; refusal = refusal })
 piece-read head p text piece reader own good new rest refusal has none own_is same keeps =
@@ -214,8 +210,8 @@ piece-read head p text piece reader own good new rest refusal has none own_is sa
       same_head = own_is ∙ has.same_head;
       same_judge = same ∙ has.same_judge;
       follows = follows-by head p (text ++ piece) refusal new rest
-          (after_lines reader.head reader.good reader.course (lines_in (reader.rest ++ piece)))
-          (rest_in (reader.rest ++ piece)) f.course_is f.rest_is keeps;
+          (after_lines reader.head reader.good reader.course) (reader.rest ++ piece) f.course_is f.rest_is
+          keeps;
     }
 
 -- after a refusal it stays as it is

@@ -1,12 +1,14 @@
 -- What comes of lines, one after the other.
 
-use Rattle.std.proofs.Common.{◌≡◌, ℕ, Some, List, [], ◌∷◌, ◌++◌, refl, ap, ◌∙◌}
+use Rattle.std.proofs.Common.{◌≡◌, ℕ, Option, None, Some, Result, Ok, Err, List, [], ◌∷◌, ◌++◌, refl, ap, ◌∙◌}
 use Rattle.std.proofs.lemmas.Option.{same_Some}
 use Rattle.ba_cert.specs.declared.head.CertHead.{CertHead}
 use Rattle.ba_choices.specs.Judges.{Judge}
 use Rattle.ba_derivations.specs.Derivations.{Problem, start_of}
 use Rattle.ba_check.specs.Findings.{Course, Awaits, Begins, Goes, Stops, Refused, after_line, after_lines, course_of, finding_by, finding_of, first_refused, refusal_in}
 use Rattle.ba_check.specs.Lines.{lines_in, rest_in}
+use Rattle.ba_check.specs.declared.error.CheckError.{CheckError}
+use Rattle.ba_check.specs.declared.error.CheckError.TheVariants.{Line, Memory}
 use Rattle.ba_check.proofs.LineLaws.{lines-append}
 
 -- a refusal stays
@@ -37,6 +39,12 @@ pub course-append : (head : CertHead) (p : Problem) (text more : List ℕ) →
 course-append head p text more =
     ap (after_lines head p.good (Begins (start_of p))) (lines-append text more)
     ∙ lines-then head p.good (Begins (start_of p)) (lines_in text) (lines_in (rest_in text ++ more))
+
+-- an answer on whole lines is the first that is refused
+abbrev pub TellsRefusal : Result Unit CheckError → Option (ℕ × ℕ) → Type 0
+TellsRefusal (Ok _) refusal = refusal ≡ None
+TellsRefusal (Err (Line line code)) refusal = refusal ≡ Some (line, code)
+TellsRefusal (Err Memory) refusal = Unit {0}
 
 -- which refusal it is
 pub refused-is : (course : Course) (number code : ℕ) → refusal_in course ≡ Some (number, code) →

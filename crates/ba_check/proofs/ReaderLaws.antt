@@ -5,12 +5,12 @@ use Rattle.std.proofs.lemmas.List.Elements.{All-nil}
 use Rattle.ba_bytes.specs.Classes.{is_line_end}
 use Rattle.ba_cert.specs.declared.head.CertHead.{CertHead}
 use Rattle.ba_derivations.specs.Derivations.{Problem, start_of}
-use Rattle.ba_check.specs.Answers.{Tells, TellsRefusal}
+use Rattle.ba_check.specs.Answers.{Tells}
 use Rattle.ba_check.specs.Findings.{Begins, after_lines, course_of, finding_of, first_refused, refusal_in}
 use Rattle.ba_check.specs.Readings.{Confirming, Follows, HasRead}
 use Rattle.ba_check.specs.declared.error.CheckError.{CheckError}
 use Rattle.ba_check.specs.declared.error.CheckError.TheVariants.{Line, Memory}
-use Rattle.ba_check.proofs.CourseLaws.{refused-found}
+use Rattle.ba_check.proofs.CourseLaws.{TellsRefusal, refused-found}
 use Rattle.ba_check.proofs.LineLaws.{all-rest, no-line}
 
 -- nothing is read

@@ -17,7 +17,7 @@ use Rattle.ba_checker.proofs.FactLaws.{facts_hold}
 use Rattle.ba_checker.specs.Facts.{Holds, splits_of}
 use Rattle.ba_checker.specs.States.{State}
 use Rattle.ba_tree.specs.Least.{WeightList}
-use Rattle.ba_check.specs.Answers.{IsTrueOf, Tells, confirmed_of}
+use Rattle.ba_check.specs.Answers.{Answers, IsTrueOf, Tells, confirmed_of}
 use Rattle.ba_check.specs.Findings.{Accepted, Finding, IsCertificateOf, Refused, finding_of}
 use Rattle.ba_check.specs.declared.confirmed.Confirmed.{Confirmed}
 use Rattle.ba_check.specs.declared.error.CheckError.{CheckError}
@@ -73,6 +73,13 @@ module _ (weights : WeightList) (head : CertHead) (p : Problem)
       subst (IsTrueOf weights head p text) (sym tells) (certified-true v (accepted head p text v is))
   told (Ok said) (Refused line code) is tells = absurd tells
 
-  pub true-of : (result : Result Confirmed CheckError) → Tells result (finding_of head p text) →
+  true-of : (result : Result Confirmed CheckError) → Tells result (finding_of head p text) →
       IfOk result (IsTrueOf weights head p text)
   true-of result tells = told result (finding_of head p text) refl tells
+
+pub answered : (head : CertHead) (p : Problem) (text : List ℕ) (result : Result Confirmed CheckError) →
+    Tells result (finding_of head p text) → Answers head p text result
+answered head p text result tells = record {
+  exactly = tells;
+  truly = λ weights faithful. true-of weights head p faithful text result tells;
+}

@@ -1,10 +1,10 @@
 -- What is answered of a text.
 
-use Rattle.std.specs.Prelude.{◌≡◌, ℕ, nat_eq, Option, None, Some, Result, Ok, Err, List, [], map}
+use Rattle.std.specs.Prelude.{◌≡◌, ℕ, nat_eq, Result, Ok, Err, IfOk, List, [], map}
 use Rattle.std.specs.Cmp.Lexicographic.{pointwise}
 use Rattle.std.specs.List.{IsDistinct}
 use Rattle.ba_cert.specs.declared.head.CertHead.{CertHead}
-use Rattle.ba_check.specs.Findings.{Finding, Accepted, IsTextOf, Refused}
+use Rattle.ba_check.specs.Findings.{Finding, Accepted, IsTextOf, Refused, finding_of}
 use Rattle.ba_check.specs.declared.confirmed.Confirmed.{Confirmed}
 use Rattle.ba_check.specs.declared.confirmed.Confirmed.TheVariants as confirmed
 use Rattle.ba_check.specs.declared.error.CheckError.{CheckError}
@@ -12,6 +12,7 @@ use Rattle.ba_check.specs.declared.error.CheckError.TheVariants.{Line, Memory}
 use Rattle.ba_check.specs.declared.settings.Settings.{Settings}
 use Rattle.ba_derivations.specs.Derivations.{AreAllLeast, AreTooMany, Problem, Verdict, conflicts_in}
 use Rattle.ba_derivations.specs.Derivations.{Located, NoRepair, Spent, TooMany}
+use Rattle.ba_derivations.specs.Encodings.{IsFaithful}
 use Rattle.ba_encode.specs.Softs.{softs_of}
 use Rattle.ba_encode.specs.declared.encoded.Encoded.{Encoded}
 use Rattle.ba_numbers.specs.declared.ids.StmtId.{StmtId}
@@ -53,12 +54,6 @@ Tells (Ok confirmed) (Refused line code) = ⊥
 Tells (Err (Line line code)) finding = finding ≡ Refused line code
 Tells (Err Memory) finding = Unit {0}
 
--- an answer on whole lines is the first that is refused
-abbrev pub TellsRefusal : Result Unit CheckError → Option (ℕ × ℕ) → Type 0
-TellsRefusal (Ok _) refusal = refusal ≡ None
-TellsRefusal (Err (Line line code)) refusal = refusal ≡ Some (line, code)
-TellsRefusal (Err Memory) refusal = Unit {0}
-
 -- WHAT A YES SAYS of the runs that a judge calls good
 
 -- these are exactly the least sets, each once, all of this weight
@@ -86,3 +81,11 @@ IsTrueOf weights h p text (confirmed.Located weight sets) = AreLeastSets weights
 IsTrueOf weights h p text confirmed.NoRepair = AreLeast weights p.good []
 IsTrueOf weights h p text (confirmed.TooMany weight) = AreMoreThan weights p.good weight p.most_sets
 IsTrueOf weights h p text confirmed.Spent = IsSpentBy h p text
+
+-- AN ANSWER is what is found of the text, and what it says is true, over a faithful encoding
+pub record Answers (h : CertHead) (p : Problem) (text : List ℕ) (result : Result Confirmed CheckError) :
+    Type 0
+  where
+    pub exactly : Tells result (finding_of h p text)
+    pub truly : (weights : WeightList) → IsFaithful p.formula p.softs weights p.good →
+        IfOk result (IsTrueOf weights h p text)

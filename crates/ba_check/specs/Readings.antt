@@ -5,7 +5,7 @@ use Rattle.ba_cert.specs.declared.error.CertError.{CertError}
 use Rattle.ba_cert.specs.declared.head.CertHead.{CertHead}
 use Rattle.ba_cert.specs.declared.error.CertError.TheVariants as unread
 use Rattle.ba_check.specs.Findings.{Awaits, Begins, Course, Goes, Stops, bad_line, course_of, first_refused}
-use Rattle.ba_check.specs.Lines.{rest_in}
+use Rattle.ba_check.specs.Lines.{lines_in, rest_in}
 use Rattle.ba_check.specs.declared.confirmed.Ending.{Ending}
 use Rattle.ba_check.specs.declared.confirmed.Ending.TheVariants as ending
 use Rattle.ba_check.specs.declared.error.CheckError.{CheckError}
@@ -55,11 +55,11 @@ Keeps (Ok _) new course = course ≡ course_kept new
 Keeps (Err (Line line code)) new course = course ≡ Stops line code
 Keeps (Err Memory) new course = Unit {0}
 
--- what is kept after a piece of a text, or one of its lines is refused
-abbrev pub KeepsWith : Result Unit CheckError → Judged → List ℕ → Course → List ℕ → Type 0
-KeepsWith (Ok _) new rest course wanted = (course ≡ course_kept new) × (rest ≡ wanted)
-KeepsWith (Err (Line line code)) new rest course wanted = course ≡ Stops line code
-KeepsWith (Err Memory) new rest course wanted = Unit {0}
+-- what is kept after these bytes, by what comes of their lines, or one of the lines is refused
+abbrev pub KeepsWith : Result Unit CheckError → Judged → List ℕ → (List (List ℕ) → Course) → List ℕ → Type 0
+KeepsWith (Ok _) new rest course bytes = (course (lines_in bytes) ≡ course_kept new) × (rest ≡ rest_in bytes)
+KeepsWith (Err (Line line code)) new rest course bytes = course (lines_in bytes) ≡ Stops line code
+KeepsWith (Err Memory) new rest course bytes = Unit {0}
 
 -- THE STATE OF A READER: the settings of the call, which runs are good, what came of the whole lines so far, what stands behind the
 -- last of them, and the error that it answers from then on

@@ -19,16 +19,14 @@ pub fn accepted_law()
 /// certificate that a search completed is accepted over the formula that it was made over.
 pub fn written_law()
     ensures { (h : CertHead) (weights : WeightList) (p : Problem) (steps : List CertStep)
-        (verdict : Verdict) → IsHead h → length weights < 2 ^ 32
-        → DerivesOver weights p steps verdict
-        → finding_of h p (text_of h steps) ≡ Accepted verdict }
+        (v : Verdict) → IsHead h → length weights < 2 ^ 32 → DerivesOver weights p steps v
+        → finding_of h p (text_of h steps) ≡ Accepted v }
 {}
 
 /// A line that is refused stays the first one, whatever follows, and is what is found of the text.
 pub fn refused_law()
     ensures stays { (h : CertHead) (p : Problem) (text more : List ℕ) (refusal : ℕ × ℕ)
         → first_refused h p text ≡ Some refusal → first_refused h p (text ++ more) ≡ Some refusal }
-    ensures found { (h : CertHead) (p : Problem) (text more : List ℕ) (line code : ℕ)
-        → first_refused h p text ≡ Some (line, code)
-        → finding_of h p (text ++ more) ≡ Refused line code }
+    ensures found { (h : CertHead) (p : Problem) (text : List ℕ) (line code : ℕ)
+        → first_refused h p text ≡ Some (line, code) → finding_of h p text ≡ Refused line code }
 {}

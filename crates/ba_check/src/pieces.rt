@@ -1,17 +1,13 @@
 //! A certificate that comes in pieces.
 
-ghost use Rattle.std.specs.Prelude.{◌≡◌, ◌++◌, ℕ, List, [], None, Some, Err, true, IfOk};
+ghost use Rattle.std.specs.Prelude.{◌≡◌, ◌++◌, ℕ, List, [], None, Err, true, IfOk, IfSome};
 ghost use Rattle.ba_cert.specs.declared.head.CertHead.{CertHead};
-ghost use Rattle.ba_check.specs.Answers.{IsTrueOf, Tells, TellsRefusal, head_of, problem_of};
-ghost use Rattle.ba_check.specs.Findings.{finding_of, first_refused};
+ghost use Rattle.ba_check.specs.Answers.{Answers, head_of, problem_of};
 ghost use Rattle.ba_check.specs.Readers.{seen};
 ghost use Rattle.ba_check.specs.Readings.{HasRead, answer_by};
-ghost use Rattle.ba_check.specs.declared.error.CheckError.{CheckError};
 ghost use Rattle.ba_derivations.specs.Derivations.{Problem};
-ghost use Rattle.ba_derivations.specs.Encodings.{IsFaithful};
 ghost use Rattle.ba_encode.specs.Softs.{softs_of};
 ghost use Rattle.ba_checker.specs.Facts.{AreSelectors};
-ghost use Rattle.ba_tree.specs.Least.{WeightList};
 ghost use Rattle.ba_tree.specs.Run.{are_bounds};
 
 use crate::confirmed::Confirmed;
@@ -51,8 +47,7 @@ impl<'a> Confirm<'a> {
         requires bounds { are_bounds settings.bounds ≡ true }
         requires selectors { AreSelectors encoded.now.formula.variables
             (softs_of encoded.now.groups) }
-        ensures nothing_read { IfOk result
-            (λ confirm. HasRead (head_of settings)
+        ensures nothing_read { IfOk result (λ confirm. HasRead (head_of settings)
             (problem_of program.now input.now settings encoded.now) [] (seen confirm)) }
         ensures no_refusal { IfOk result (λ confirm. (seen confirm).refusal ≡ None) }
     {
@@ -82,14 +77,9 @@ impl<'a> Confirm<'a> {
     /// the same.
     pub fn feed(&mut self, piece: &[u8]) -> Result<(), CheckError>
         ensures reads { (h : CertHead) (p : Problem) (text : List ℕ)
-            → HasRead h p text (seen self.old)
-            → HasRead h p (text ++ piece.now) (seen self.new) }
-        ensures refuses { (h : CertHead) (p : Problem) (text : List ℕ)
-            → HasRead h p text (seen self.old)
-            → TellsRefusal result (first_refused h p (text ++ piece.now)) }
-        ensures again { (error : CheckError) → self.old.refusal ≡ Some error
-            → (result ≡ Err error) × (seen self.new ≡ seen self.old) }
-        ensures stays { result ≡ answer_by self.new.refusal }
+            → HasRead h p text (seen self.old) → HasRead h p (text ++ piece.now) (seen self.new) }
+        ensures answer { result ≡ answer_by self.new.refusal }
+        ensures again { IfSome self.old.refusal (λ _. seen self.new ≡ seen self.old) }
     {
         if let Some(refusal) = self.refusal {
             return Err(refusal);
@@ -105,14 +95,9 @@ impl<'a> Confirm<'a> {
     /// that is refused, or, where none is, with the line after the whole ones and the code 21. The other
     /// error is want of memory.
     pub fn finish(self) -> Result<Confirmed, CheckError>
-        ensures exactly { (h : CertHead) (p : Problem) (text : List ℕ)
-            → HasRead h p text (seen self.entry)
-            → Tells result (finding_of h p text) }
-        ensures again { (error : CheckError) → self.entry.refusal ≡ Some error
-            → result ≡ Err error }
-        ensures truly { (weights : WeightList) (h : CertHead) (p : Problem) (text : List ℕ)
-            → HasRead h p text (seen self.entry) → IsFaithful p.formula p.softs weights p.good
-            → IfOk result (IsTrueOf weights h p text) }
+        ensures answers { (h : CertHead) (p : Problem) (text : List ℕ)
+            → HasRead h p text (seen self.entry) → Answers h p text result }
+        ensures again { IfSome self.entry.refusal (λ error. result ≡ Err error) }
     {
         if let Some(refusal) = self.refusal {
             return Err(refusal);

@@ -2,7 +2,7 @@
 
 ghost use Rattle.std.specs.Prelude.{◌≡◌, ◌++◌, [], OnOk};
 ghost use Rattle.ba_check.specs.Findings.{after_line, after_lines};
-ghost use Rattle.ba_check.specs.Lines.{HasNoFeed, lines_in, rest_in};
+ghost use Rattle.ba_check.specs.Lines.{HasNoFeed};
 ghost use Rattle.ba_check.specs.Readings.{Keeps, KeepsWith, course_kept};
 
 use crate::cut::cut;
@@ -28,11 +28,9 @@ impl LineReader {
         judge: &J,
         piece: &[u8],
     ) -> Result<(), CheckError>
-        ensures { HasNoFeed self.old.rest.items → KeepsWith result
-            self.new.judged self.new.rest.items
-            (after_lines head.now (J.accepts judge.now) (course_kept self.old.judged)
-            (lines_in (self.old.rest.items ++ piece.now)))
-            (rest_in (self.old.rest.items ++ piece.now)) }
+        ensures { HasNoFeed self.old.rest.items → KeepsWith result self.new.judged
+            self.new.rest.items (after_lines head.now (J.accepts judge.now)
+            (course_kept self.old.judged)) (self.old.rest.items ++ piece.now) }
     {
         let mut left = piece;
         while let Some((end, behind)) = cut(left) {

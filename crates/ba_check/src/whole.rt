@@ -1,12 +1,9 @@
 //! A certificate that is there as a whole.
 
-ghost use Rattle.std.specs.Prelude.{◌≡◌, true, IfOk};
-ghost use Rattle.ba_check.specs.Answers.{IsTrueOf, Tells, head_of, problem_of};
-ghost use Rattle.ba_check.specs.Findings.{finding_of};
-ghost use Rattle.ba_derivations.specs.Encodings.{IsFaithful};
+ghost use Rattle.std.specs.Prelude.{◌≡◌, true};
+ghost use Rattle.ba_check.specs.Answers.{Answers, head_of, problem_of};
 ghost use Rattle.ba_encode.specs.Softs.{softs_of};
 ghost use Rattle.ba_checker.specs.Facts.{AreSelectors};
-ghost use Rattle.ba_tree.specs.Least.{WeightList, judge_of};
 ghost use Rattle.ba_tree.specs.Run.{are_bounds};
 
 use crate::confirmed::Confirmed;
@@ -32,16 +29,9 @@ pub fn confirm(
     text: &[u8],
 ) -> Result<Confirmed, CheckError>
     requires bounds { are_bounds settings.bounds ≡ true }
-    requires selectors { AreSelectors encoded.now.formula.variables
-        (softs_of encoded.now.groups) }
-    ensures exactly { Tells result
-        (finding_of (head_of settings)
-        (problem_of program.now input.now settings encoded.now) text.now) }
-    ensures truly { (weights : WeightList)
-        → IsFaithful encoded.now.formula (softs_of encoded.now.groups) weights
-        (judge_of program.now input.now settings.bounds)
-        → IfOk result (IsTrueOf weights (head_of settings)
-        (problem_of program.now input.now settings encoded.now) text.now) }
+    requires selectors { AreSelectors encoded.now.formula.variables (softs_of encoded.now.groups) }
+    ensures { Answers (head_of settings) (problem_of program.now input.now settings encoded.now)
+        text.now result }
 {
     let mut confirm = Confirm::new(alloc, program, input, settings, encoded)?;
     confirm.feed(text)?;

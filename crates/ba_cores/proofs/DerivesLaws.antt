@@ -1,26 +1,26 @@
 -- Derivations put end to end, and what they leave as it was.
 
-use Rattle.std.proofs.Common.{◌≡◌, ℕ, ◌+◌, ◌-◌, ◌<◌, ◌≤◌, Option, None, Some, IfSome, IfNone, Result, Ok, Err, List, [], ◌∷◌, ◌++◌, All, refl, ap, ◌∙◌, arith, subst}
+use Rattle.std.proofs.Common.{◌≡◌, ℕ, ◌+◌, ◌-◌, ◌<◌, ◌≤◌, Option, None, Some, IfSome, IfNone, Result, Ok, Err, List, [], ◌∷◌, ◌++◌, All, refl, sym, ap, ◌∙◌, arith, subst}
 use Rattle.std.specs.Result.{OnOk}
 use Rattle.std.proofs.lemmas.List.Elements.{All-nil, All-cons, All-append}
 use Rattle.ba_lits.specs.Literals.{Literal}
 use Rattle.ba_lits.specs.Satisfaction.{Soft}
 use Rattle.ba_lits.specs.Formulas.{Cnf}
-use Rattle.ba_steps.specs.Sinks.{Logs, with_step, MayAddStep}
+use Rattle.ba_steps.specs.Sinks.{with_step, MayAddStep}
 use Rattle.ba_steps.specs.Steps.{IsFormed}
 use Rattle.ba_steps.specs.declared.step.CertStep.{CertStep}
 use Rattle.ba_steps.specs.declared.step.CertStep.TheVariants.{Learn, Core, Delete}
 use Rattle.ba_checker.specs.States.{State, first_state}
 use Rattle.ba_choices.specs.Judges.{Judge}
 use Rattle.ba_checker.specs.Judging.{error_of, after, after_all}
-use Rattle.ba_checker.specs.Puts.{IsTakenOrAsleep, leaves_all, leaves_last}
+use Rattle.ba_checker.specs.Puts.{Checking, IsTakenOrAsleep, Lasts, LeavesSteps, leaves_all, leaves_last}
 use Rattle.ba_checker.proofs.PutLaws.{logs_then, leaves_weaker, leaves_after}
 use Rattle.ba_checker.proofs.FactLaws.{next_allowed, after_append}
-use Rattle.ba_search.specs.Searching.{Searches, searches_none, searches_learn, searches_delete, LeavesBetween as LeavesSearched, PutsBetween as PutsSearched}
+use Rattle.ba_search.specs.Searching.{HasTaken, Searching, Searches, searches_none, searches_learn, searches_delete, Leaves as LeavesSearched, Puts as PutsSearched}
 use Rattle.ba_search.proofs.StepLaws.{Gives}
-use Rattle.ba_cores.specs.Derivations.{Derives, derives_none, derives_learn, derives_delete, derives_core, LeavesBetween, IsReached}
+use Rattle.ba_cores.specs.Derivations.{Derives, derives_none, derives_learn, derives_delete, derives_core, IsReached, Leaves}
 use Rattle.ba_cores.specs.Findings.{IsFound}
-use Rattle.ba_cores.specs.Rounds.{IsReady, PutsBetween, EndsRoundBetween}
+use Rattle.ba_cores.specs.Rounds.{EndsRound, HasPut, IsReady, Puts}
 use Rattle.ba_cores.specs.declared.costs.Found.{Found}
 use Rattle.ba_cores.specs.declared.costs.Found.TheVariants.{Least, NoModel, Spent}
 
@@ -120,75 +120,81 @@ reached_on {good} {a} {b} {xs} formula softs r d = record {
       (derives_after d);
 }
 
--- what is found from a later state is found from an earlier one
-found_on : {good : Judge} {a b : State} {xs : List CertStep} → Derives good a xs b →
-    (c : State) (found : Found) →
-    IsFound good b c found → IsFound good a c found
-found_on d c (Least weight model) is = (
-  is.0,
-  is.1,
-  λ formula softs r. is.2 formula softs
-      (reached_on formula softs r d),
-)
-found_on d c (NoModel hints) is = (
-  is.0,
-  is.1,
-  is.2,
-  λ formula softs r. is.3 formula softs
-      (reached_on formula softs r d),
-)
-found_on d c Spent is = is
-
-round_from : {good : Judge} {a b : State} {xs : List CertStep} → Derives good a xs b →
-    (c : State) (v w : ℕ) (found : Option Found) → EndsRoundBetween good b c v w found → EndsRoundBetween good a c v w found
-round_from d c v w (Some found) is = found_on d c found is
-round_from d c v w None is = let s = derives_stays d in omega (arith, is, s.budget, s.conflicts)
-
 -- THE STEPS OF ROUNDS
-pub puts_none : (good : Judge) (s : State) (logs : Logs) → PutsBetween good s s logs logs
-puts_none good s logs = record { steps = []; leads = derives_none s; logs = refl }
+pub puts_none : (log : Checking) → Puts log log
+puts_none log = record { steps = []; leads = derives_none log.checker; logs = refl }
 
-pub puts_on : (good : Judge) (a b c : State) (l m n : Logs) → PutsBetween good a b l m → PutsBetween good b c m n →
-    PutsBetween good a c l n
-puts_on good a b c l m n p q = record {
+pub puts_on : (a b c : Checking) → Lasts a b → Puts a b → Puts b c → Puts a c
+puts_on a b c lasts p q = record {
   steps = p.steps ++ q.steps;
-  leads = derives_append p.leads c q.steps q.leads;
-  logs = logs_then p.steps q.steps l m n p.logs q.logs;
+  leads = derives_append p.leads c.checker q.steps
+      (subst (λ (j : Judge). Derives j b.checker q.steps c.checker) lasts.judge_stays q.leads);
+  logs = logs_then p.steps q.steps a.told.logs b.told.logs c.told.logs p.logs q.logs;
 }
 
-pub puts_core : (good : Judge) (s t : State) (lits : List Literal) (hints : List ℕ) (l m : Logs) →
-    IsFormed (Core lits hints) → error_of good s (Core lits hints) ≡ None → t ≡ after s (Core lits hints) →
-    m ≡ with_step (Core lits hints) l → PutsBetween good s t l m
-puts_core good s t lits hints l m formed allowed taken told = record {
+pub puts_core : (old new : Checking) (lits : List Literal) (hints : List ℕ) →
+    IsFormed (Core lits hints) → error_of old.accepts old.checker (Core lits hints) ≡ None →
+    new.checker ≡ after old.checker (Core lits hints) →
+    new.told.logs ≡ with_step (Core lits hints) old.told.logs → Puts old new
+puts_core old new lits hints formed allowed taken told = record {
   steps = Core lits hints ∷ [];
-  leads = derives_core s t lits hints [] formed allowed
-      (let P : State → Type 0 = λ u. Derives good u [] t in subst P taken (derives_none t));
+  leads = derives_core old.checker new.checker lits hints [] formed allowed
+      (let P : State → Type 0 = λ s. Derives old.accepts s [] new.checker in
+      subst P taken (derives_none new.checker));
   logs = told;
 }
 
 -- Learn and Delete steps, as the search tells them
-pub puts_searched : (good : Judge) {gives : Gives} {learnt all : List ℕ} (a b : State) (l m : Logs) →
-    PutsSearched good gives a b learnt all l m → PutsBetween good a b l m
-puts_searched good a b l m searched =
+pub puts_searched : {gives : Gives} {learnt all : List ℕ} (old new : Checking) →
+    PutsSearched gives learnt all old new → Puts old new
+puts_searched old new searched =
     record { steps = searched.steps; leads = searches_derives searched.leads; logs = searched.logs }
 
-pub puts_ready : (good : Judge) (a b : State) (l m : Logs) → PutsBetween good a b l m → IsReady a → IsReady b
-puts_ready good a b l m p r =
+pub puts_ready : (old new : Checking) → Puts old new → IsReady old.checker → IsReady new.checker
+puts_ready old new p r =
     let s = derives_stays p.leads in
     record { begun = s.ended ∙ r.begun; awake = s.refused ∙ r.awake; none_blocked = s.sets ∙ r.none_blocked }
 
-pub round_on : (good : Judge) (a b c : State) (l m : Logs) (v w : ℕ) (found : Option Found) →
-    PutsBetween good a b l m →
-    EndsRoundBetween good b c v w found → EndsRoundBetween good a c v w found
-round_on good a b c l m v w found p is = round_from p.leads c v w found is
+pub puts_softs : {gives : Gives} {learnt all : List ℕ} (old new : Checking) →
+    PutsSearched gives learnt all old new → new.checker.softs ≡ old.checker.softs
+puts_softs old new searched = searches_softs searched.leads
 
-pub found_later : (good : Judge) (a b c : State) (l m : Logs) (found : Found) → PutsBetween good a b l m →
-    IsFound good b c found → IsFound good a c found
-found_later good a b c l m found p is = found_on p.leads c found is
+-- WHAT IS FOUND from a later state is found from an earlier one
+reached_later : (a b : Checking) → Lasts a b → Puts a b → (formula : Cnf) (softs : List Soft) →
+    IsReached a.accepts formula softs a.checker → IsReached b.accepts formula softs b.checker
+reached_later a b lasts p formula softs r =
+    subst (λ (j : Judge). IsReached j formula softs b.checker) (sym lasts.judge_stays)
+    (reached_on formula softs r p.leads)
 
-pub puts_softs : (good : Judge) {gives : Gives} {learnt all : List ℕ} (a b : State) (xs : List CertStep) →
-    Searches good gives a learnt xs b all → b.softs ≡ a.softs
-puts_softs good a b xs searches = searches_softs searches
+pub found_on : (a b c : Checking) → Lasts a b → Puts a b → (found : Found) → IsFound b c found →
+    IsFound a c found
+found_on a b c lasts p (Least weight model) is =
+    (is.0, is.1, λ formula softs r. is.2 formula softs (reached_later a b lasts p formula softs r))
+found_on a b c lasts p (NoModel hints) is =
+    (is.0, is.1, is.2, λ formula softs r. is.3 formula softs (reached_later a b lasts p formula softs r))
+found_on a b c lasts p Spent is = is
+
+pub round_on : (a b c : Checking) (v w : ℕ) → Lasts a b → Puts a b → (found : Option Found) →
+    EndsRound b c v w found → EndsRound a c v w found
+round_on a b c v w lasts p (Some found) is = found_on a b c lasts p found is
+round_on a b c v w lasts p None is =
+    let s = derives_stays p.leads in omega (arith, is, s.budget, s.conflicts)
+
+pub found_some : (a b : Checking) (v w : ℕ) (ended : Option Found) (found : Found) → ended ≡ Some found →
+    EndsRound a b v w ended → IsFound a b found
+found_some a b v w ended found is ends = subst (EndsRound a b v w) is ends
+
+-- a round that leaves the weight from which on soft literals are assumed
+pub round_weight : (a b : Checking) (v : ℕ) (found : Option Found) → EndsRound a b 0 0 found →
+    EndsRound a b v v found
+round_weight a b v (Some found) is = is
+round_weight a b v None is = omega (arith, is)
+
+-- a round that ends with a model
+pub round_model : (log : Checking) (v w : ℕ) (found : Option Found) → IfSome found (IsFound log log) →
+    IfNone found (w < v) → EndsRound log log v w found
+round_model log v w (Some found) is less = is
+round_model log v w None is less = omega (arith, less)
 
 -- a Core step takes one of the conflicts that are left
 pub core_fewer : (s t : State) (lits : List Literal) (hints : List ℕ) → s.conflicts < s.budget →
@@ -203,60 +209,39 @@ pub on_ok : {T E P : Type 0} (r : Result T E) → P → OnOk r P
 on_ok (Ok x) p = p
 on_ok (Err e) p = tt
 
--- the same with a judge that is the same
-pub puts_as : (good same : Judge) (a b : State) (l m : Logs) → good ≡ same → PutsBetween good a b l m →
-    PutsBetween same a b l m
-puts_as good same a b l m is p = let P : Judge → Type 0 = λ g. PutsBetween g a b l m in subst P is p
-
-pub found_as : (good same : Judge) (a b : State) (v w : ℕ) (o : Option Found) (found : Found) → good ≡ same →
-    o ≡ Some found → EndsRoundBetween good a b v w o → IsFound same a b found
-found_as good same a b v w o found is some ends =
-    let P : Option Found → Type 0 = λ p. EndsRoundBetween good a b v w p in
-    let Q : Judge → Type 0 = λ g. IsFound g a b found in
-    subst Q is (subst P some ends)
-
-pub round_as : (good same : Judge) (a b c : State) (l m : Logs) (v w : ℕ) (found : Option Found) →
-    same ≡ good →
-    PutsBetween good a b l m → EndsRoundBetween same b c v w found → EndsRoundBetween good a c v w found
-round_as good same a b c l m v w found is p ends = let P : Judge → Type 0 =
-    λ g. EndsRoundBetween g b c v w found in round_on good a b c l m v w found p (subst P is ends)
-
--- a round that leaves the weight from which on soft literals are assumed
-pub round_weight : (good : Judge) (a b : State) (v : ℕ) (found : Option Found) →
-    EndsRoundBetween good a b 0 0 found →
-    EndsRoundBetween good a b v v found
-round_weight good a b v (Some found) is = is
-round_weight good a b v None is = omega (arith, is)
-
--- a round that ends with a model
-pub round_model : (good : Judge) (s : State) (v w : ℕ) (found : Option Found) →
-    IfSome found (IsFound good s s) →
-    IfNone found (w < v) → EndsRoundBetween good s s v w found
-round_model good s v w (Some found) is less = is
-round_model good s v w None is less = omega (arith, less)
+-- where the search has taken the clauses of steps that were put
+pub put_taken : {R T E : Type 0} (r : Result T E) (search : Searching R) (old new : Checking) →
+    OnOk r (HasTaken search new) → new.refusal ≡ None → Puts old new → OnOk r (HasPut search old new)
+put_taken (Ok x) search old new taken fresh puts = record {
+  goes_on = record { working = taken.stays_fresh; fresh = fresh; same = taken.same };
+  puts = puts;
+}
+put_taken (Err e) search old new taken fresh puts = tt
 
 -- WHAT IS LEFT
-pub leaves_none : (good : Judge) (s : State) (logs : Logs) → LeavesBetween good s logs s logs
-leaves_none good s logs = leaves_all [] (derives_none s) refl
+pub leaves_none : (log : Checking) → Leaves log log
+leaves_none log = leaves_all [] (derives_none log.checker) refl
 
-pub leaves_put : (good : Judge) (a b : State) (l m : Logs) → PutsBetween good a b l m → LeavesBetween good a l b m
-leaves_put good a b l m p = leaves_all p.steps p.leads p.logs
+pub leaves_put : (old new : Checking) → Puts old new → Leaves old new
+leaves_put old new p = leaves_all p.steps p.leads p.logs
 
-pub leaves_core : (good : Judge) (s t : State) (lits : List Literal) (hints : List ℕ) (l m : Logs) →
-    IsFormed (Core lits hints) → error_of good s (Core lits hints) ≡ None →
-    IsTakenOrAsleep s (Core lits hints) t → MayAddStep (Core lits hints) l m → LeavesBetween good s l t m
-leaves_core good s t lits hints l m formed allowed taken told =
-    leaves_last [] (Core lits hints) s (derives_none s)
-    (derives_core s (after s (Core lits hints)) lits hints [] formed allowed
-    (derives_none (after s (Core lits hints))))
+pub leaves_core : (old new : Checking) (lits : List Literal) (hints : List ℕ) →
+    IsFormed (Core lits hints) → error_of old.accepts old.checker (Core lits hints) ≡ None →
+    IsTakenOrAsleep old.checker (Core lits hints) new.checker →
+    MayAddStep (Core lits hints) old.told.logs new.told.logs → Leaves old new
+leaves_core old new lits hints formed allowed taken told =
+    let next : State = after old.checker (Core lits hints) in
+    leaves_last [] (Core lits hints) old.checker (derives_none old.checker)
+    (derives_core old.checker next lits hints [] formed allowed (derives_none next))
     taken told
 
-pub leaves_searches : (good : Judge) {gives : Gives} {learnt : List ℕ} (a b : State) (l m : Logs) →
-    LeavesSearched good gives learnt a l b m → LeavesBetween good a l b m
-leaves_searches good a b l m left = leaves_weaker (λ steps t s. searches_derives s.1) left
+pub leaves_searches : {gives : Gives} {learnt : List ℕ} (old new : Checking) →
+    LeavesSearched gives learnt old new → Leaves old new
+leaves_searches old new left = leaves_weaker (λ steps t s. searches_derives s.1) left
 
-pub leaves_on : (good same : Judge) (a b c : State) (l m n : Logs) → same ≡ good → PutsBetween good a b l m →
-    LeavesBetween same b m c n → LeavesBetween good a l c n
-leaves_on good same a b c l m n is p left =
-    let P : Judge → Type 0 = λ g. LeavesBetween g b m c n in
-    leaves_after p.steps c l m n p.logs (λ steps t d. derives_append p.leads t steps d) (subst P is left)
+pub leaves_on : (a b c : Checking) → Lasts a b → Puts a b → Leaves b c → Leaves a c
+leaves_on a b c lasts p left =
+    leaves_after p.steps c.checker a.told.logs b.told.logs c.told.logs p.logs
+    (λ steps t d. derives_append p.leads t steps d)
+    (subst (λ (j : Judge). LeavesSteps (Derives j b.checker) b.told.logs c.checker c.told.logs)
+    lasts.judge_stays left)

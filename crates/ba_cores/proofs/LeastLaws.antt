@@ -10,6 +10,7 @@ use Rattle.ba_lits.specs.Hints.{FollowsByHints}
 use Rattle.ba_lits.proofs.Satisfied.{cost-agree}
 use Rattle.ba_checker.specs.States.{Kept, State, clause_at, present, first_state}
 use Rattle.ba_choices.specs.Judges.{Judge}
+use Rattle.ba_checker.specs.Puts.{Checking}
 use Rattle.ba_checker.specs.Judging.{error_of_replay}
 use Rattle.ba_checker.specs.Facts.{IsLive, Holds, splits_of}
 use Rattle.ba_checker.specs.Blocks.{block_clauses}
@@ -113,13 +114,14 @@ none_from s a [] hints back core none = core.follows
 none_from s a (l ∷ ls) hints back core none = absurd (omega (arith, none))
 
 -- a core without a literal
-pub none_of_core : (good : Judge) (s : State) (a lits : List Literal) (hints : List ℕ) (back : ℕ) →
-    IsCore s a lits hints back → s.sets ≡ [] → length lits ≡ 0 → IsFound good s s (NoModel hints)
-none_of_core good s a lits hints back core no_sets none =
-    let follows = none_from s a lits hints back core none in (
+pub none_of_core : (log : Checking) (a lits : List Literal) (hints : List ℕ) (back : ℕ) →
+    IsCore log.checker a lits hints back → log.checker.sets ≡ [] → length lits ≡ 0 →
+    IsFound log log (NoModel hints)
+none_of_core log a lits hints back core no_sets none =
+    let follows = none_from log.checker a lits hints back core none in (
       follows,
       core.numbers,
       core.left,
-      λ formula softs r v holds. none_of_empty good formula softs s hints
+      λ formula softs r v holds. none_of_empty log.accepts formula softs log.checker hints
           follows no_sets r v holds,
     )

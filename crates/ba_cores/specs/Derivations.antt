@@ -6,7 +6,6 @@ use Rattle.ba_lits.specs.Satisfaction.{Soft}
 use Rattle.ba_lits.specs.Formulas.{Cnf}
 use Rattle.ba_learn.specs.Live.{IsNew}
 use Rattle.ba_steps.specs.Steps.{IsFormed}
-use Rattle.ba_steps.specs.Sinks.{Logs}
 use Rattle.ba_steps.specs.declared.step.CertStep.{CertStep}
 use Rattle.ba_steps.specs.declared.step.CertStep.TheVariants.{Learn, Core, Delete}
 use Rattle.ba_checker.specs.States.{State, clause_at, first_state}
@@ -15,8 +14,9 @@ use Rattle.ba_checker.specs.Judging.{error_of, after, after_all}
 use Rattle.ba_checker.specs.Facts.{IsStart}
 use Rattle.ba_checker.specs.Puts.{Checking, LeavesSteps}
 
--- Learn, Delete and Core steps lead from one state of a checker to another: each has the form that its text asks for and is
--- allowed, and the clause of a Learn step is new to propagation for the clauses that are live at that moment
+-- Learn, Delete and Core steps lead from one state of a checker to another: each has the form that its text
+-- asks for and is allowed, and the clause of a Learn step is new to propagation for the clauses that are live
+-- at that moment
 pub data Derives (good : Judge) : State → List CertStep → State → Type 0 where
   derives_none : (s : State) → Derives good s [] s
   derives_learn : (s t : State) (lits : List Literal) (hints : List ℕ) (steps : List CertStep) →
@@ -32,12 +32,9 @@ pub data Derives (good : Judge) : State → List CertStep → State → Type 0 w
       error_of good s (Core lits hints) ≡ None → Derives good (after s (Core lits hints)) steps t →
       Derives good s (Core lits hints ∷ steps) t
 
--- what such steps leave between two states of a checker with their logs, also after an error
-abbrev pub LeavesBetween : Judge → State → Logs → State → Logs → Type 0
-LeavesBetween good old old_logs new new_logs = LeavesSteps (Derives good old) old_logs new new_logs
-
+-- what such steps leave, also after an error
 abbrev pub Leaves : Checking → Checking → Type 0
-Leaves old new = LeavesBetween old.accepts old.checker old.told.logs new.checker new.told.logs
+Leaves old new = LeavesSteps (Derives old.accepts old.checker) old.told.logs new.checker new.told.logs
 
 -- allowed steps lead to the state from a formula with soft literals
 pub record IsReached (good : Judge) (formula : Cnf) (softs : List Soft) (s : State) : Type 0 where

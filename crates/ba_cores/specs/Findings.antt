@@ -5,8 +5,8 @@ use Rattle.ba_lits.specs.Satisfaction.{Assignment, all_true, assignment_of, Soft
 use Rattle.ba_lits.specs.Formulas.{Cnf}
 use Rattle.ba_lits.specs.Hints.{FollowsByHints}
 use Rattle.ba_steps.specs.Steps.{AreNumbers}
-use Rattle.ba_checker.specs.States.{State, clause_at, present}
-use Rattle.ba_choices.specs.Judges.{Judge}
+use Rattle.ba_checker.specs.Puts.{Checking}
+use Rattle.ba_checker.specs.States.{clause_at, present}
 use Rattle.ba_cores.specs.Derivations.{IsReached}
 use Rattle.ba_cores.specs.declared.costs.Found.{Found}
 use Rattle.ba_cores.specs.declared.costs.Found.TheVariants.{Least, NoModel, Spent}
@@ -17,16 +17,18 @@ pub record IsLeast (formula : Cnf) (softs : List Soft) (weight : ℕ) (values : 
   pub costs : cost (assignment_of values) (present softs) ≡ weight
   pub least : (v : Assignment) → all_true v formula.clauses ≡ true → weight ≤ cost v (present softs)
 
--- what is found, from a state of the checker to another: a model of least cost, which is the bound, with a value for each
--- variable; that there is no model, with hints, numbers of a step, by which the empty clause follows, while conflicts are
--- left; or that the conflicts are spent
-abbrev pub IsFound : Judge → State → State → Found → Type 0
-IsFound good old new (Least weight model) =
-    (weight ≡ new.bound) × (length model.values ≡ new.variables)
-    × ((formula : Cnf) (softs : List Soft) → IsReached good formula softs old →
+-- what is found between two states of a log: a model of least cost, which is the bound, with a value for each
+-- variable; that there is no model, with hints, numbers of a step, by which the empty clause follows, while
+-- conflicts are left; or that the conflicts are spent
+abbrev pub IsFound : Checking → Checking → Found → Type 0
+IsFound old new (Least weight model) =
+    (weight ≡ new.checker.bound) × (length model.values ≡ new.checker.variables)
+    × ((formula : Cnf) (softs : List Soft) → IsReached old.accepts formula softs old.checker →
     IsLeast formula softs weight model.values)
-IsFound good old new (NoModel hints) =
-    FollowsByHints (clause_at new.clauses) [] hints × AreNumbers hints × (new.conflicts < new.budget)
-    × ((formula : Cnf) (softs : List Soft) → IsReached good formula softs old → (v : Assignment) →
+IsFound old new (NoModel hints) =
+    FollowsByHints (clause_at new.checker.clauses) [] hints × AreNumbers hints
+    × (new.checker.conflicts < new.checker.budget)
+    × ((formula : Cnf) (softs : List Soft) → IsReached old.accepts formula softs old.checker → (v :
+    Assignment) →
     all_true v formula.clauses ≡ true → ⊥)
-IsFound good old new Spent = new.conflicts ≡ new.budget
+IsFound old new Spent = new.checker.conflicts ≡ new.checker.budget

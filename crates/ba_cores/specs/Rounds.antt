@@ -3,12 +3,10 @@
 use Rattle.std.specs.Prelude.{◌≡◌, ℕ, ◌+◌, ◌-◌, ◌<◌, not, ltb, false, Option, None, Some, List, [], map, filter}
 use Rattle.ba_lits.specs.Literals.{Literal}
 use Rattle.ba_lits.specs.Satisfaction.{Soft}
-use Rattle.ba_steps.specs.Sinks.{Logs}
 use Rattle.ba_checker.specs.States.{State, clause_at}
-use Rattle.ba_choices.specs.Judges.{Judge}
 use Rattle.ba_checker.specs.Puts.{Checking, PutsSteps}
 use Rattle.ba_learn.specs.Live.{AreLive}
-use Rattle.ba_search.specs.Searching.{Searching}
+use Rattle.ba_search.specs.Searching.{MayGoOn, Searching}
 use Rattle.ba_cores.specs.Derivations.{Derives}
 use Rattle.ba_cores.specs.Findings.{IsFound}
 use Rattle.ba_cores.specs.declared.costs.Found.{Found}
@@ -28,24 +26,32 @@ pub record IsReady (s : State) : Type 0 where
   pub none_blocked : s.sets ≡ []
 
 -- Learn, Delete and Core steps were put
-abbrev pub PutsBetween : Judge → State → State → Logs → Logs → Type 0
-PutsBetween good old new old_logs new_logs = PutsSteps (λ steps. Derives good old steps new) old_logs new_logs
-
 abbrev pub Puts : Checking → Checking → Type 0
-Puts old new = PutsBetween old.accepts old.checker new.checker old.told.logs new.told.logs
+Puts old new = PutsSteps (λ steps. Derives old.accepts old.checker steps new.checker) old.told.logs
+    new.told.logs
 
--- a search for the least cost may start with a log: it has its live clauses, no step was refused, and no set is blocked
+-- they were put, and the search may go on
+pub record HasPut {R : Type 0} (search : Searching R) (old new : Checking) : Type 0 where
+  pub goes_on : MayGoOn search new
+  pub puts : Puts old new
+
+-- a search for the least cost may start with a log: it has its live clauses, no step was refused, and no set
+-- is blocked
 pub record MayStart {R : Type 0} (search : Searching R) (log : Checking) : Type 0 where
   pub same : AreLive search.clauses (clause_at log.checker.clauses)
   pub fresh : log.refusal ≡ None
   pub ready : IsReady log.checker
 
--- what a round comes to: what is found; or nothing, and then fewer conflicts are left, or the soft literals that are
--- assumed get lighter, the weight from which on they are assumed being a second one in place of a first
-abbrev pub EndsRoundBetween : Judge → State → State → ℕ → ℕ → Option Found → Type 0
-EndsRoundBetween good old new before next (Some found) = IsFound good old new found
-EndsRoundBetween good old new before next None = (new.budget - new.conflicts) + next < (old.budget - old.conflicts)
-    + before
+-- a search stands between two rounds: it may go on, and the checker takes Core steps
+pub record Stands {R : Type 0} (search : Searching R) (log : Checking) : Type 0 where
+  pub goes_on : MayGoOn search log
+  pub ready : IsReady log.checker
 
+-- what a round comes to: what is found; or nothing, and then fewer conflicts are left, or the soft literals
+-- that are assumed get lighter, the weight from which on they are assumed being a second one in place of a
+-- first
 abbrev pub EndsRound : Checking → Checking → ℕ → ℕ → Option Found → Type 0
-EndsRound old new = EndsRoundBetween old.accepts old.checker new.checker
+EndsRound old new before next (Some found) = IsFound old new found
+EndsRound old new before next None =
+    (new.checker.budget - new.checker.conflicts) + next < (old.checker.budget - old.checker.conflicts) +
+    before

@@ -1,11 +1,11 @@
 //! The least cost.
 
 ghost use Rattle.std.specs.Prelude.{◌≡◌, None, Some, IfOk, OnOk, Err};
-ghost use Rattle.ba_search.specs.Searching.{MayGoOn, RanSearch};
 ghost use Rattle.ba_search.specs.declared.search.SearchError.{SearchError};
+ghost use Rattle.ba_search.specs.Searching.{RanSearch};
 ghost use Rattle.ba_cores.specs.Derivations.{Leaves};
 ghost use Rattle.ba_cores.specs.Findings.{IsFound};
-ghost use Rattle.ba_cores.specs.Rounds.{IsReady, MayStart, Puts};
+ghost use Rattle.ba_cores.specs.Rounds.{HasPut, IsReady, MayStart};
 
 use crate::rounds::{heaviest, round};
 use ba_checker::ProofLog;
@@ -37,11 +37,9 @@ pub fn least<L: ProofLog, R: SearchRules + Drop>(
 ) -> Result<Found, SearchError>
     requires rules { R.are_rules search.old.rules }
     requires starts { search.old.failure ≡ None → MayStart search.old (L.log log.old) }
-    ensures found { IfOk result (IsFound (L.log log.old).accepts (L.log log.old).checker
-        (L.log log.new).checker) }
-    ensures goes_on { OnOk result (MayGoOn search.new (L.log log.new)) }
+    ensures found { IfOk result (IsFound (L.log log.old) (L.log log.new)) }
+    ensures put { OnOk result (HasPut search.new (L.log log.old) (L.log log.new)) }
     ensures ready { OnOk result (IsReady (L.log log.new).checker) }
-    ensures steps { OnOk result (Puts (L.log log.old) (L.log log.new)) }
     ensures leaves { Leaves (L.log log.old) (L.log log.new) }
     ensures ran { RanSearch result search.old search.new (L.log log.old) (L.log log.new) }
     ensures again { (error : SearchError) → search.old.failure ≡ Some error

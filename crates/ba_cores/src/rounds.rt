@@ -3,10 +3,10 @@
 
 ghost use Rattle.std.specs.Prelude.{◌≡◌, ◌-◌, ◌<◌, ◌≤◌, ◌∷◌, ◌++◌, [], None, true, false, length, IfOk, IfSome, IfNone, OnOk, Err};
 ghost use Rattle.ba_search.specs.Answers.{IsAnswer, IsCore, IsModel};
-ghost use Rattle.ba_search.specs.Searching.{MayGoOn, RanSearch};
+ghost use Rattle.ba_search.specs.Searching.{RanSearch};
 ghost use Rattle.ba_cores.specs.Derivations.{Leaves};
 ghost use Rattle.ba_cores.specs.Findings.{IsFound};
-ghost use Rattle.ba_cores.specs.Rounds.{literals_of, heavy, IsReady, Puts, EndsRound};
+ghost use Rattle.ba_cores.specs.Rounds.{EndsRound, HasPut, IsReady, Stands, heavy, literals_of};
 
 use crate::costs::Found;
 use ba_checker::ProofLog;
@@ -28,14 +28,11 @@ pub fn round<L: ProofLog, R: SearchRules + Drop>(
     weight: &mut u32,
 ) -> Result<Option<Found>, SearchError>
     requires rules { R.are_rules search.old.rules }
-    requires goes_on { MayGoOn search.old (L.log log.old) }
-    requires ready { IsReady (L.log log.old).checker }
+    requires stands { Stands search.old (L.log log.old) }
     ensures found { IfOk result (EndsRound (L.log log.old) (L.log log.new) weight.old weight.new) }
-    ensures goes_on { OnOk result (MayGoOn search.new (L.log log.new)) }
-    ensures puts { OnOk result (Puts (L.log log.old) (L.log log.new)) }
+    ensures put { OnOk result (HasPut search.new (L.log log.old) (L.log log.new)) }
     ensures leaves { Leaves (L.log log.old) (L.log log.new) }
-    ensures ran { RanSearch result search.old search.new
-        (L.log log.old) (L.log log.new) }
+    ensures ran { RanSearch result search.old search.new (L.log log.old) (L.log log.new) }
 {
     let Ok(assumptions) = heavy_literals(alloc, log.checker().softs(), *weight) else {
         return Err(SearchError::Memory);
@@ -56,14 +53,11 @@ fn take_answer<L: ProofLog, R: SearchRules + Drop>(
 ) -> Result<Option<Found>, SearchError>
     requires answer { IsAnswer (L.log log.old).checker
         (literals_of (heavy weight.old (L.log log.old).checker.softs)) answer }
-    requires goes_on { MayGoOn search.old (L.log log.old) }
-    requires ready { IsReady (L.log log.old).checker }
+    requires stands { Stands search.old (L.log log.old) }
     ensures found { IfOk result (EndsRound (L.log log.old) (L.log log.new) weight.old weight.new) }
-    ensures goes_on { OnOk result (MayGoOn search.new (L.log log.new)) }
-    ensures puts { OnOk result (Puts (L.log log.old) (L.log log.new)) }
+    ensures put { OnOk result (HasPut search.new (L.log log.old) (L.log log.new)) }
     ensures leaves { Leaves (L.log log.old) (L.log log.new) }
-    ensures ran { RanSearch result search.old search.new
-        (L.log log.old) (L.log log.new) }
+    ensures ran { RanSearch result search.old search.new (L.log log.old) (L.log log.new) }
 {
     match answer {
         Answer::Model(model) => Ok(take_model(log, weight, model)),
@@ -78,8 +72,7 @@ fn take_model<L: ProofLog>(log: &L, weight: &mut u32, model: Model) -> Option<Fo
     requires model { IsModel (L.log log.now).checker
         (literals_of (heavy weight.old (L.log log.now).checker.softs)) model.values }
     requires ready { IsReady (L.log log.now).checker }
-    ensures found { IfSome result (IsFound (L.log log.now).accepts (L.log log.now).checker
-        (L.log log.now).checker) }
+    ensures found { IfSome result (IsFound (L.log log.now) (L.log log.now)) }
     ensures less { IfNone result (weight.new < weight.old) }
 {
     let checker = log.checker();
@@ -101,16 +94,13 @@ fn take_core<L: ProofLog, R: SearchRules + Drop>(
     log: &mut L,
     core: Learnt,
 ) -> Result<Option<Found>, SearchError>
-    requires core { IsCore (L.log log.old).checker (literals_of (L.log log.old).checker.softs) core.lits
-        core.hints core.back }
-    requires goes_on { MayGoOn search.old (L.log log.old) }
-    requires ready { IsReady (L.log log.old).checker }
+    requires core { IsCore (L.log log.old).checker (literals_of (L.log log.old).checker.softs)
+        core.lits core.hints core.back }
+    requires stands { Stands search.old (L.log log.old) }
     ensures found { IfOk result (EndsRound (L.log log.old) (L.log log.new) 0 0) }
-    ensures goes_on { OnOk result (MayGoOn search.new (L.log log.new)) }
-    ensures puts { OnOk result (Puts (L.log log.old) (L.log log.new)) }
+    ensures put { OnOk result (HasPut search.new (L.log log.old) (L.log log.new)) }
     ensures leaves { Leaves (L.log log.old) (L.log log.new) }
-    ensures ran { RanSearch result search.old search.new
-        (L.log log.old) (L.log log.new) }
+    ensures ran { RanSearch result search.old search.new (L.log log.old) (L.log log.new) }
 {
     if core.lits.is_empty() {
         return Ok(Some(Found::NoModel { hints: core.hints }));
@@ -127,18 +117,15 @@ fn put_core<L: ProofLog, R: SearchRules + Drop>(
     log: &mut L,
     core: Learnt,
 ) -> Result<(), SearchError>
-    requires core { IsCore (L.log log.old).checker (literals_of (L.log log.old).checker.softs) core.lits
-        core.hints core.back }
+    requires core { IsCore (L.log log.old).checker (literals_of (L.log log.old).checker.softs)
+        core.lits core.hints core.back }
     requires some { 0 < length core.lits }
-    requires goes_on { MayGoOn search.old (L.log log.old) }
-    requires ready { IsReady (L.log log.old).checker }
-    ensures puts { OnOk result (Puts (L.log log.old) (L.log log.new)) }
+    requires stands { Stands search.old (L.log log.old) }
+    ensures put { OnOk result (HasPut search.new (L.log log.old) (L.log log.new)) }
+    ensures fewer { OnOk result ((L.log log.new).checker.budget - (L.log log.new).checker.conflicts
+        < (L.log log.old).checker.budget - (L.log log.old).checker.conflicts) }
     ensures leaves { Leaves (L.log log.old) (L.log log.new) }
-    ensures fewer { OnOk result ((L.log log.new).checker.budget - (L.log log.new).checker.conflicts <
-        (L.log log.old).checker.budget - (L.log log.old).checker.conflicts) }
-    ensures goes_on { OnOk result (MayGoOn search.new (L.log log.new)) }
-    ensures ran { RanSearch result search.old search.new
-        (L.log log.old) (L.log log.new) }
+    ensures ran { RanSearch result search.old search.new (L.log log.old) (L.log log.new) }
 {
     log.checker().keeps_facts();
     let step = CertStep::Core {

@@ -10,27 +10,22 @@ use Rattle.ba_derivations.specs.declared.verdict.FoundSet.{FoundSet}
 use Rattle.ba_derivations.proofs.GroupLaws.{cost_is}
 use Rattle.ba_encode.specs.Readings.{choices_read, is_in_range}
 use Rattle.ba_encode.specs.declared.encoded.Encoded.{Encoded}
-use Rattle.ba_enum.specs.Leading.{IsReached, IsNext, IsReady, PutsBetween}
+use Rattle.ba_enum.specs.Leading.{HasReached, IsNext, IsNextModel, IsRead, IsReached, IsReady, Puts}
 use Rattle.ba_enum.specs.Problems.{IsReadable}
 use Rattle.ba_encode.specs.Softs.{softs_of}
 use Rattle.ba_enum.proofs.GroupLaws.{groups_ascend, some_groups, groups_exist, not_among}
 use Rattle.ba_enum.proofs.LeadLaws.{reached_groups, reached_wide, one_after}
 use Rattle.ba_enum.proofs.RangeLaws.{formed_choices}
 use Rattle.ba_lits.specs.Satisfaction.{Assignment, Soft, assignment_of}
-use Rattle.ba_steps.specs.Sinks.{Logs, with_step}
+use Rattle.ba_steps.specs.Sinks.{with_step}
 use Rattle.ba_steps.specs.Steps.{AreAbove, IsFormed}
 use Rattle.ba_steps.specs.declared.step.CertStep.TheVariants.{Block}
 use Rattle.ba_steps.specs.declared.step.StepError.TheVariants.{AfterEnd, Memory, BadVariable, SetTwice, WrongWeight, RunNotGood}
 use Rattle.ba_checker.specs.Blocks.{lacks_group, is_among, set_weight}
+use Rattle.ba_checker.specs.Puts.{Checking}
 use Rattle.ba_choices.specs.Judges.{Judge}
 use Rattle.ba_checker.specs.Judging.{error_if, error_of, after}
 use Rattle.ba_checker.specs.States.{State}
-
--- what is blocked: the set of a model, with the run that is read from it
-pub record IsRead (encoded : Encoded) (values : List Bool) (set : FoundSet) : Type 0 where
-  pub groups : set.groups ≡ false_groups (assignment_of values) (softs_of encoded.groups)
-  pub run : set.run ≡ choices_read (assignment_of values) encoded.places
-  pub in_range : list_all is_in_range set.run ≡ true
 
 pub read_same : (encoded : Encoded) (values : List Bool) (groups : List ℕ) (run : List Choice)
     (set : FoundSet) →
@@ -51,11 +46,10 @@ found_same old new groups run set first second pushed =
     λ i. record { groups = first i; run = second i } in
     pushed ∙ ap (λ (b : FoundSet). old ++ b ∷ []) (sym same)
 
-pub long_enough : (good : Judge) (encoded : Encoded) (s : State) (values : List Bool)
-    (found : List FoundSet) →
-    IsReached good encoded.formula (softs_of encoded.groups) s found →
-    IsNext encoded.formula (softs_of encoded.groups) s values → encoded.formula.variables ≤ length values
-long_enough good encoded s values found reached next =
+pub long_enough : (encoded : Encoded) (log : Checking) (values : List Bool) (found : List FoundSet) →
+    HasReached encoded log found → IsNextModel encoded log values →
+    encoded.formula.variables ≤ length values
+long_enough encoded log values found reached next =
     let wide = reached_wide reached in
     let all = next.all in
     omega (arith, wide, all)
@@ -115,33 +109,32 @@ allowed_set good encoded s values found readable reached next ready =
     same : (a b : ℕ) → a ≡ b → (a == b) ≡ true
     same a b e = grind (arith, nat_tests)
 
-pub block_allowed : (good : Judge) (encoded : Encoded) (s : State) (values : List Bool)
-    (found : List FoundSet)
+pub block_allowed : (encoded : Encoded) (log : Checking) (values : List Bool) (found : List FoundSet)
     (set : FoundSet) →
-    IsReadable encoded good → IsReached good encoded.formula (softs_of encoded.groups) s found →
-    IsNext encoded.formula (softs_of encoded.groups) s values → IsReady s → IsRead encoded values set →
-    error_of good s (Block set.groups set.run) ≡ None
-block_allowed good encoded s values found set readable reached next ready read =
-    let P : List ℕ → Type 0 = λ groups. error_of good s (Block groups set.run) ≡ None in
-    let Q : List Choice → Type 0 = λ run. error_of good s
+    IsReadable encoded log.accepts → HasReached encoded log found → IsNextModel encoded log values →
+    IsReady log.checker → IsRead encoded values set →
+    error_of log.accepts log.checker (Block set.groups set.run) ≡ None
+block_allowed encoded log values found set readable reached next ready read =
+    let P : List ℕ → Type 0 = λ groups. error_of log.accepts log.checker (Block groups set.run) ≡ None in
+    let Q : List Choice → Type 0 = λ run. error_of log.accepts log.checker
     (Block (false_groups (assignment_of values) (softs_of encoded.groups)) run) ≡ None in
     subst P (sym read.groups) (subst Q (sym read.run)
-    (allowed_set good encoded s values found readable reached next ready))
+    (allowed_set log.accepts encoded log.checker values found readable reached next ready))
 
 -- SO IT LEADS ON
-pub block_puts : (good : Judge) (encoded : Encoded) (s t : State) (values : List Bool) (found : List FoundSet)
-    (set : FoundSet) (l m : Logs) →
-    IsReadable encoded good → IsReached good encoded.formula (softs_of encoded.groups) s found →
-    IsNext encoded.formula (softs_of encoded.groups) s values → IsReady s → IsRead encoded values set →
-    t ≡ after s (Block set.groups set.run) → m ≡ with_step (Block set.groups set.run) l →
-    PutsBetween good encoded.formula (softs_of encoded.groups) s t (set ∷ []) l m
-block_puts good encoded s t values found set l m readable reached next ready read taken told = record {
+pub block_puts : (encoded : Encoded) (old new : Checking) (values : List Bool) (found : List FoundSet)
+    (set : FoundSet) →
+    IsReadable encoded old.accepts → HasReached encoded old found → IsNextModel encoded old values →
+    IsReady old.checker → IsRead encoded values set →
+    new.checker ≡ after old.checker (Block set.groups set.run) →
+    new.told.logs ≡ with_step (Block set.groups set.run) old.told.logs → Puts encoded (set ∷ []) old new
+block_puts encoded old new values found set readable reached next ready read taken told = record {
   steps = Block set.groups set.run ∷ [];
   leads = record {
     formed = All-cons IsFormed (Block set.groups set.run) []
-        (block_formed good encoded s values set readable next read) (All-nil IsFormed);
-    reaches = one_after good s t (Block set.groups set.run)
-        (block_allowed good encoded s values found set readable reached next ready read) taken;
+        (block_formed old.accepts encoded old.checker values set readable next read) (All-nil IsFormed);
+    reaches = one_after old.accepts old.checker new.checker (Block set.groups set.run)
+        (block_allowed encoded old values found set readable reached next ready read) taken;
     news = (tt, tt);
     blocks = refl;
     models = All-cons (HasModelFor encoded.formula (softs_of encoded.groups)) set.groups [] model

@@ -8,16 +8,17 @@ use Rattle.ba_derivations.specs.Derivations as derived
 use Rattle.ba_derivations.specs.declared.verdict.FoundSet.{FoundSet}
 use Rattle.ba_derivations.specs.declared.verdict.Verdict.TheVariants.{Located}
 use Rattle.ba_cores.proofs.CoreLaws.{none_of}
-use Rattle.ba_enum.specs.Enumerating.{HaveSame, Ends}
+use Rattle.ba_enum.specs.Enumerating.{EndsWith, HaveSame}
 use Rattle.ba_enum.specs.Leading.{IsReady}
 use Rattle.ba_enum.specs.Turning.{IsLast}
 use Rattle.ba_lits.specs.Hints.{Replay, Refutes, FollowsByHints, replay}
 use Rattle.ba_lits.specs.Literals.{Literal, negate, lit_at}
 use Rattle.ba_lits.proofs.ClauseLaws.{IsClause-more}
-use Rattle.ba_steps.specs.Sinks.{Logs, with_step}
+use Rattle.ba_steps.specs.Sinks.{with_step}
 use Rattle.ba_steps.specs.Steps.{IsFormed}
 use Rattle.ba_steps.specs.declared.step.CertStep.TheVariants.{EndLocated, EndNoRepair, EndTooMany, EndSpent}
 use Rattle.ba_steps.specs.declared.step.StepError.TheVariants.{AfterEnd, Memory, BadVariable, NotSofts, WrongCount}
+use Rattle.ba_checker.specs.Puts.{Checking}
 use Rattle.ba_choices.specs.Judges.{Judge}
 use Rattle.ba_checker.specs.Judging.{error_if, lacks_variable, is_spent, lacks_soft, error_of_replay, are_too_many, error_of, after}
 use Rattle.ba_checker.specs.Splits.{is_soft}
@@ -64,20 +65,21 @@ last_allowed good s found lits hints back last sets ready =
     some : (m n : ℕ) → m ≡ n → 0 < n → not (ltb 0 m) ≡ false
     some m n e lt = grind (arith, nat_tests)
 
-pub last_ends : (good : Judge) (s t : State) (found sets : List FoundSet) (lits : List Literal)
-    (hints : List ℕ)
-    (back weight : ℕ) (l m : Logs) →
-    IsLast s found lits hints back → s.sets ≡ sets_of found → IsReady s → weight ≡ s.bound →
-    HaveSame sets found → AreInOrder (sets_of sets) → length sets ≡ length found →
-    IsFormed (EndLocated lits hints) → t ≡ after s (EndLocated lits hints) →
-    m ≡ with_step (EndLocated lits hints) l →
-    Ends good s found l (Located weight sets) t m
-last_ends good s t found sets lits hints back weight l m last are ready is same order count formed taken
-    told = record {
+pub last_ends : (old new : Checking) (found sets : List FoundSet) (lits : List Literal) (hints : List ℕ)
+    (back weight : ℕ) →
+    IsLast old.checker found lits hints back → old.checker.sets ≡ sets_of found → IsReady old.checker →
+    weight ≡ old.checker.bound → HaveSame sets found → AreInOrder (sets_of sets) → length sets ≡ length found
+    →
+    IsFormed (EndLocated lits hints) → new.checker ≡ after old.checker (EndLocated lits hints) →
+    new.told.logs ≡ with_step (EndLocated lits hints) old.told.logs →
+    EndsWith found old new (Located weight sets)
+last_ends old new found sets lits hints back weight last are ready is same order count formed taken told =
+    let s = old.checker in
+    record {
       last = EndLocated lits hints;
       said = derived.Located s.bound s.sets;
       formed = formed;
-      allowed = last_allowed good s found lits hints back last are ready;
+      allowed = last_allowed old.accepts s found lits hints back last are ready;
       says = refl;
       fits = (
         ap (λ w. derived.Located w s.sets) (sym is) ∙ ap (λ (ss : List (List ℕ)). derived.Located weight ss)

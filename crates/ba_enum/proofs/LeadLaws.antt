@@ -5,7 +5,7 @@ use Rattle.std.proofs.lemmas.List.Elements.{All-nil, All-append}
 use Rattle.std.proofs.lemmas.Option.{same_Some}
 use Rattle.ba_lits.specs.Satisfaction.{Soft}
 use Rattle.ba_lits.specs.Formulas.{Cnf}
-use Rattle.ba_steps.specs.Sinks.{Logs, with_step, MayAddStep}
+use Rattle.ba_steps.specs.Sinks.{with_step, MayAddStep}
 use Rattle.ba_steps.specs.Steps.{IsFormed}
 use Rattle.ba_steps.specs.declared.step.CertStep.{CertStep}
 use Rattle.ba_steps.specs.declared.step.CertStep.TheVariants.{Learn, Core, Delete, Block, EndLocated, EndNoRepair, EndTooMany, EndSpent}
@@ -13,14 +13,16 @@ use Rattle.ba_checker.specs.States.{State, first_state}
 use Rattle.ba_choices.specs.Judges.{Judge}
 use Rattle.ba_checker.specs.Judging.{error_of, after, after_all}
 use Rattle.ba_checker.specs.Facts.{IsStart, Holds, splits_of}
-use Rattle.ba_checker.specs.Puts.{IsTakenOrAsleep, leaves_all, leaves_last}
+use Rattle.ba_checker.specs.Puts.{Checking, IsTakenOrAsleep, leaves_all, leaves_last}
 use Rattle.ba_checker.proofs.FactLaws.{after_append, allowed, facts_hold, next_allowed}
 use Rattle.ba_checker.proofs.PutLaws.{logs_then, leaves_after}
 use Rattle.ba_derivations.specs.Derivations.{blocked_by, sets_of}
 use Rattle.ba_derivations.specs.Encodings.{HasModelFor}
 use Rattle.ba_derivations.specs.declared.verdict.FoundSet.{FoundSet}
 use Rattle.ba_derivations.proofs.StepLaws.{limits_stay, sets_gathered, blocked_append, sets_append}
-use Rattle.ba_enum.specs.Leading.{AreNew, Leads, IsReached, PutsBetween, LeavesBetween}
+use Rattle.ba_enum.specs.Leading.{AreNew, IsReached, Leads, Leaves, LeavesBetween, Puts}
+use Rattle.ba_encode.specs.Softs.{softs_of}
+use Rattle.ba_encode.specs.declared.encoded.Encoded.{Encoded}
 
 pub one_after : (good : Judge) (s t : State) (step : CertStep) → error_of good s step ≡ None →
     t ≡ after s step →
@@ -149,61 +151,54 @@ reached_wide {good} {formula} {softs} {s} r =
     wider good (first_state formula softs r.conflicts r.most_sets) r.steps s r.leads.reaches
 
 -- STEPS THAT WERE PUT
-pub puts_none : (good : Judge) (formula : Cnf) (softs : List Soft) (s : State) (logs : Logs) →
-    PutsBetween good formula softs s s [] logs logs
-puts_none good formula softs s logs = record {
+pub puts_none : (encoded : Encoded) (log : Checking) → Puts encoded [] log log
+puts_none encoded log = record {
   steps = [];
-  leads = leads_none good formula softs s;
-  logs =
-      refl;
+  leads = leads_none log.accepts encoded.formula (softs_of encoded.groups) log.checker;
+  logs = refl;
 }
 
-pub puts_on : (good : Judge) (formula : Cnf) (softs : List Soft) (a b c : State) (found more : List FoundSet)
-    (l m n : Logs) →
-    PutsBetween good formula softs a b found l m → PutsBetween good formula softs b c more m n →
-    PutsBetween good formula softs a c (found ++ more) l n
-puts_on good formula softs a b c found more l m n p q = record {
+pub puts_on : (encoded : Encoded) (a b c : Checking) (found more : List FoundSet) → b.accepts ≡ a.accepts →
+    Puts encoded found a b → Puts encoded more b c → Puts encoded (found ++ more) a c
+puts_on encoded a b c found more judge p q = record {
   steps = p.steps ++ q.steps;
-  leads = leads_append p.leads c q.steps more q.leads;
-  logs = logs_then p.steps q.steps l m n p.logs q.logs;
+  leads = leads_append p.leads c.checker q.steps more
+      (subst (λ (j : Judge). Leads j encoded.formula (softs_of encoded.groups) b.checker q.steps c.checker
+      more)
+      judge q.leads);
+  logs = logs_then p.steps q.steps a.told.logs b.told.logs c.told.logs p.logs q.logs;
 }
 
--- the same with a judge that is the same
-pub puts_as : (good same : Judge) (formula : Cnf) (softs : List Soft) (a b : State) (found : List FoundSet)
-    (l m : Logs) → good ≡ same →
-    PutsBetween good formula softs a b found l m → PutsBetween same formula softs a b found l m
-puts_as good same formula softs a b found l m is p =
-    let P : Judge → Type 0 = λ g. PutsBetween g formula softs a b found l m in subst P is p
-
-pub puts_most : (good : Judge) (formula : Cnf) (softs : List Soft) (a b : State) (found : List FoundSet)
-    (l m : Logs) →
-    PutsBetween good formula softs a b found l m → b.most_sets ≡ a.most_sets
-puts_most good formula softs a b found l m p = (limits_stay good a p.steps b p.leads.reaches).most_sets
+pub puts_most : (encoded : Encoded) (old new : Checking) (found : List FoundSet) → Puts encoded found old new
+    →
+    new.checker.most_sets ≡ old.checker.most_sets
+puts_most encoded old new found p =
+    (limits_stay old.accepts old.checker p.steps new.checker p.leads.reaches).most_sets
 
 -- WHAT IS LEFT
-pub leaves_none : (good : Judge) (s : State) (logs : Logs) → LeavesBetween good s logs s logs
-leaves_none good s logs = leaves_all [] refl refl
+pub leaves_none : (log : Checking) → Leaves log log
+leaves_none log = leaves_all [] refl refl
 
-pub leaves_put : (good : Judge) (formula : Cnf) (softs : List Soft) (a b : State) (found : List FoundSet)
-    (l m : Logs) →
-    PutsBetween good formula softs a b found l m → LeavesBetween good a l b m
-leaves_put good formula softs a b found l m p = leaves_all p.steps p.leads.reaches p.logs
+pub leaves_put : (encoded : Encoded) (old new : Checking) (found : List FoundSet) → Puts encoded found old new
+    →
+    Leaves old new
+leaves_put encoded old new found p = leaves_all p.steps p.leads.reaches p.logs
 
-pub leaves_one : (good : Judge) (s t : State) (step : CertStep) (l m : Logs) → error_of good s step ≡ None →
-    t ≡ after s step → m ≡ with_step step l → LeavesBetween good s l t m
-leaves_one good s t step l m allowed taken told =
-    leaves_all (step ∷ []) (one_after good s t step allowed taken) told
+pub leaves_one : (old new : Checking) (step : CertStep) → error_of old.accepts old.checker step ≡ None →
+    new.checker ≡ after old.checker step → new.told.logs ≡ with_step step old.told.logs → Leaves old new
+leaves_one old new step allowed taken told =
+    leaves_all (step ∷ []) (one_after old.accepts old.checker new.checker step allowed taken) told
 
-pub leaves_tried : (good : Judge) (s t : State) (step : CertStep) (l m : Logs) → error_of good s step ≡ None →
-    IsTakenOrAsleep s step t → MayAddStep step l m → LeavesBetween good s l t m
-leaves_tried good s t step l m allowed taken told =
-    leaves_last [] step s refl (one_after good s (after s step) step allowed refl) taken told
+pub leaves_tried : (old new : Checking) (step : CertStep) → error_of old.accepts old.checker step ≡ None →
+    IsTakenOrAsleep old.checker step new.checker → MayAddStep step old.told.logs new.told.logs → Leaves old
+    new
+leaves_tried old new step allowed taken told =
+    leaves_last [] step old.checker refl
+    (one_after old.accepts old.checker (after old.checker step) step allowed refl) taken told
 
-pub leaves_on : (good same : Judge) (formula : Cnf) (softs : List Soft) (a b c : State)
-    (found : List FoundSet)
-    (l m n : Logs) → same ≡ good →
-    PutsBetween good formula softs a b found l m → LeavesBetween same b m c n → LeavesBetween good a l c n
-leaves_on good same formula softs a b c found l m n is p left =
-    let P : Judge → Type 0 = λ g. LeavesBetween g b m c n in
-    leaves_after p.steps c l m n p.logs (λ steps t d. after_append good p.steps steps a b t p.leads.reaches
-    d) (subst P is left)
+pub leaves_on : (encoded : Encoded) (a b c : Checking) (found : List FoundSet) → b.accepts ≡ a.accepts →
+    Puts encoded found a b → Leaves b c → Leaves a c
+leaves_on encoded a b c found judge p left =
+    leaves_after p.steps c.checker a.told.logs b.told.logs c.told.logs p.logs
+    (λ steps t d. after_append a.accepts p.steps steps a.checker b.checker t p.leads.reaches d)
+    (subst (λ (j : Judge). LeavesBetween j b.checker b.told.logs c.checker c.told.logs) judge left)

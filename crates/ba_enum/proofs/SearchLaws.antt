@@ -7,13 +7,15 @@ use Rattle.ba_cores.specs.Derivations.{derives_none, derives_learn, derives_dele
 use Rattle.ba_cores.proofs.DerivesLaws.{searches_derives, derives_formed, derives_after}
 use Rattle.ba_derivations.specs.Derivations.{blocked_by}
 use Rattle.ba_derivations.specs.Encodings.{HasModelFor}
-use Rattle.ba_enum.specs.Leading.{AreNew, Leads, PutsBetween, LeavesBetween}
+use Rattle.ba_enum.specs.Leading.{AreNew, Leads, Leaves, Puts}
 use Rattle.ba_lits.specs.Formulas.{Cnf}
 use Rattle.ba_lits.specs.Satisfaction.{Soft}
-use Rattle.ba_cores.specs.Rounds.{PutsBetween as DerivedPuts}
-use Rattle.ba_search.specs.Searching.{LeavesBetween as LeavesSearched, PutsBetween as PutsSearched}
+use Rattle.ba_cores.specs.Rounds.{Puts as DerivedPuts}
+use Rattle.ba_search.specs.Searching.{Leaves as LeavesSearched, Puts as PutsSearched}
 use Rattle.ba_search.proofs.StepLaws.{Gives}
-use Rattle.ba_steps.specs.Sinks.{Logs}
+use Rattle.ba_checker.specs.Puts.{Checking}
+use Rattle.ba_encode.specs.Softs.{softs_of}
+use Rattle.ba_encode.specs.declared.encoded.Encoded.{Encoded}
 use Rattle.ba_steps.specs.declared.step.CertStep.{CertStep}
 use Rattle.ba_choices.specs.Judges.{Judge}
 use Rattle.ba_checker.specs.States.{State}
@@ -43,24 +45,24 @@ derives_leads formula softs d = record {
   models = All-nil (HasModelFor formula softs);
 }
 
-pub puts_derived : (good : Judge) (formula : Cnf) (softs : List Soft) (a b : State) (l m : Logs) →
-    DerivedPuts good a b l m → PutsBetween good formula softs a b [] l m
-puts_derived good formula softs a b l m derived =
-    record { steps = derived.steps; leads = derives_leads formula softs derived.leads; logs = derived.logs }
+pub puts_derived : (encoded : Encoded) (old new : Checking) → DerivedPuts old new → Puts encoded [] old new
+puts_derived encoded old new derived = record {
+  steps = derived.steps;
+  leads = derives_leads encoded.formula (softs_of encoded.groups) derived.leads;
+  logs = derived.logs;
+}
 
-pub puts_searched : (good : Judge) (formula : Cnf) (softs : List Soft) {gives : Gives} {learnt all : List ℕ}
-    (a b : State) (l m : Logs) →
-    PutsSearched good gives a b learnt all l m → PutsBetween good formula softs a b [] l m
-puts_searched good formula softs a b l m searched = record {
+pub puts_searched : (encoded : Encoded) {gives : Gives} {learnt all : List ℕ} (old new : Checking) →
+    PutsSearched gives learnt all old new → Puts encoded [] old new
+puts_searched encoded old new searched = record {
   steps = searched.steps;
-  leads = derives_leads formula softs (searches_derives searched.leads);
+  leads = derives_leads encoded.formula (softs_of encoded.groups) (searches_derives searched.leads);
   logs = searched.logs;
 }
 
-pub leaves_searches : (good : Judge) {gives : Gives} {learnt : List ℕ} (a b : State) (l m : Logs) →
-    LeavesSearched good gives learnt a l b m → LeavesBetween good a l b m
-leaves_searches good a b l m left = leaves_weaker (λ steps t s. derives_after (searches_derives s.1)) left
+pub leaves_searches : {gives : Gives} {learnt : List ℕ} (old new : Checking) →
+    LeavesSearched gives learnt old new → Leaves old new
+leaves_searches old new left = leaves_weaker (λ steps t s. derives_after (searches_derives s.1)) left
 
-pub leaves_derived : (good : Judge) (a b : State) (l m : Logs) → cores.LeavesBetween good a l b m →
-    LeavesBetween good a l b m
-leaves_derived good a b l m left = leaves_weaker (λ steps t d. derives_after d) left
+pub leaves_derived : (old new : Checking) → cores.Leaves old new → Leaves old new
+leaves_derived old new left = leaves_weaker (λ steps t d. derives_after d) left

@@ -11,12 +11,15 @@ use Rattle.ba_derivations.specs.declared.verdict.Verdict.{Verdict}
 use Rattle.ba_derivations.specs.declared.verdict.Verdict.TheVariants.{Located, NoRepair, TooMany, Spent}
 use Rattle.ba_derivations.proofs.StepLaws.{before_end, blocked_append, limits_stay}
 use Rattle.ba_derivations.proofs.VerdictLaws.{no_sets}
-use Rattle.ba_enum.specs.Enumerating.{HaveSame, Says, Enumerates, Fits, Ends}
-use Rattle.ba_enum.specs.Leading.{IsNewIn, IsReached, PutsBetween}
+use Rattle.ba_enum.specs.Enumerating.{EndsWith, EnumeratesIn, Fits, HaveSame, Says}
+use Rattle.ba_enum.specs.Leading.{IsNewIn, IsReached, Leads, Puts}
+use Rattle.ba_enum.specs.Problems.{problem_in}
+use Rattle.ba_encode.specs.Softs.{softs_of}
+use Rattle.ba_encode.specs.declared.encoded.Encoded.{Encoded}
+use Rattle.ba_checker.specs.Puts.{Checking}
 use Rattle.ba_enum.proofs.LeadLaws.{one_after, news_append, reached_facts}
 use Rattle.ba_lits.specs.Formulas.{Cnf}
 use Rattle.ba_lits.specs.Satisfaction.{Assignment, all_true, Soft}
-use Rattle.ba_steps.specs.Sinks.{Logs}
 use Rattle.ba_steps.specs.Steps.{IsFormed}
 use Rattle.ba_steps.specs.declared.step.CertStep.{CertStep}
 use Rattle.ba_steps.specs.declared.step.CertStep.TheVariants.{Learn, Core, Delete, Block, EndLocated, EndNoRepair, EndTooMany, EndSpent}
@@ -99,53 +102,63 @@ says_of p s found steps Spent said derives fits most blocked none =
     let P : derived.Verdict → Type 0 = λ v. Derives p steps v in subst P fits derives
 
 -- from the start: sets are blocked, and an End step is put
-pub enumerates : (p : Problem) (start s t : State) (found : List FoundSet) (k l m : Logs)
-    (verdict : Verdict) →
-    IsStart p.formula p.softs → start ≡ start_of p → PutsBetween p.good p.formula p.softs start s found k l →
-    Ends p.good s found l verdict t m → Enumerates p k verdict t m
-enumerates p start s t found k l m verdict clauses same puts ends =
-    let P : State → Type 0 = λ u. PutsBetween p.good p.formula p.softs u s found k l in
-    from_start (subst P same puts)
+pub enumerates : (encoded : Encoded) (start between end : Checking) (found : List FoundSet) (verdict :
+    Verdict) →
+    IsStart encoded.formula (softs_of encoded.groups) →
+    start.checker ≡ start_of (problem_in encoded start.accepts start.checker) →
+    between.accepts ≡ start.accepts → Puts encoded found start between → EndsWith found between end verdict →
+    EnumeratesIn encoded start end verdict
+enumerates encoded start between end found verdict clauses same judge puts ends = record {
+  steps = puts.steps ++ ends.last ∷ [];
+  logs = logs_then puts.steps (ends.last ∷ []) start.told.logs between.told.logs end.told.logs puts.logs
+      ends.told;
+  reaches = after_append p.good puts.steps (ends.last ∷ []) (start_of p) s end.checker leads.reaches
+      (one_after p.good s end.checker ends.last allowed ends.taken);
+  news = news_append p.good puts.steps (ends.last ∷ []) (start_of p) s leads.reaches leads.news
+      (ends_new s ends.last ends.said ends.says, tt);
+  models = let P : List FoundSet → Type 0 = λ fs. All (HasModelFor p.formula p.softs) (sets_of fs) in
+      subst P (sym blocked) leads.models;
+  says = says_of p s found (puts.steps ++ ends.last ∷ []) verdict ends.said derives ends.fits
+      ((limits_stay p.good (start_of p) puts.steps s leads.reaches).most_sets) blocked
+      (λ said v. no_model p.good p.formula p.softs s found reached ends.last allowed (ends.says
+      ∙ ap Some said) v);
+}
   where
-    from_start : PutsBetween p.good p.formula p.softs (start_of p) s found k l → Enumerates p k verdict t m
-    from_start q = record {
-      steps = q.steps ++ ends.last ∷ [];
-      logs = logs_then q.steps (ends.last ∷ []) k l m q.logs ends.told;
-      reaches = after_append p.good q.steps (ends.last ∷ []) (start_of p) s t q.leads.reaches
-          (one_after p.good s t ends.last ends.allowed ends.taken);
-      news = news_append p.good q.steps (ends.last ∷ []) (start_of p) s q.leads.reaches q.leads.news
-          (ends_new s ends.last ends.said ends.says, tt);
-      models = let P : List FoundSet → Type 0 = λ fs. All (HasModelFor p.formula p.softs) (sets_of fs) in
-          subst P (sym blocked) q.leads.models;
-      says = says_of p s found (q.steps ++ ends.last ∷ []) verdict ends.said derives ends.fits
-          ((limits_stay p.good (start_of p) q.steps s q.leads.reaches).most_sets) blocked
-          (λ said v. no_model p.good p.formula p.softs s found reached ends.last ends.allowed (ends.says
-          ∙ ap Some said) v);
+    p : Problem
+    p = problem_in encoded start.accepts start.checker
+
+    s : State
+    s = between.checker
+
+    leads : Leads p.good p.formula p.softs (start_of p) puts.steps s found
+    leads = subst (λ (t : State). Leads p.good p.formula p.softs t puts.steps s found) same puts.leads
+
+    allowed : error_of p.good s ends.last ≡ None
+    allowed = subst (λ (j : Judge). error_of j s ends.last ≡ None) judge ends.allowed
+
+    reached : IsReached p.good p.formula p.softs s found
+    reached = record {
+      start = clauses;
+      conflicts = p.conflicts;
+      most_sets = p.most_sets;
+      steps = puts.steps;
+      leads = leads;
     }
-      where
-        reached : IsReached p.good p.formula p.softs s found
-        reached = record {
-          start = clauses;
-          conflicts = p.conflicts;
-          most_sets = p.most_sets;
-          steps = q.steps;
-          leads = q.leads;
-        }
 
-        blocked : blocked_by (q.steps ++ ends.last ∷ []) ≡ found
-        blocked =
-            blocked_append q.steps (ends.last ∷ [])
-            ∙ (ap (λ fs. blocked_by q.steps ++ fs) (ends_block s ends.last ends.said ends.says)
-            ∙ (append-nil (blocked_by q.steps) ∙ q.leads.blocks))
+    blocked : blocked_by (puts.steps ++ ends.last ∷ []) ≡ found
+    blocked =
+        blocked_append puts.steps (ends.last ∷ [])
+        ∙ (ap (λ fs. blocked_by puts.steps ++ fs) (ends_block s ends.last ends.said ends.says)
+        ∙ (append-nil (blocked_by puts.steps) ∙ leads.blocks))
 
-        derives : Derives p (q.steps ++ ends.last ∷ []) ends.said
-        derives = record {
-          front = q.steps;
-          last = ends.last;
-          steps_are = refl;
-          formed = All-push IsFormed q.steps ends.last q.leads.formed ends.formed;
-          state = s;
-          leads = q.leads.reaches;
-          ends = ends.allowed;
-          says = ends.says;
-        }
+    derives : Derives p (puts.steps ++ ends.last ∷ []) ends.said
+    derives = record {
+      front = puts.steps;
+      last = ends.last;
+      steps_are = refl;
+      formed = All-push IsFormed puts.steps ends.last leads.formed ends.formed;
+      state = s;
+      leads = leads.reaches;
+      ends = allowed;
+      says = ends.says;
+    }

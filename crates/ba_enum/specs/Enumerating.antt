@@ -7,16 +7,13 @@ use Rattle.ba_derivations.specs.Encodings.{HasModelFor}
 use Rattle.ba_derivations.specs.declared.verdict.FoundSet.{FoundSet}
 use Rattle.ba_derivations.specs.declared.verdict.Verdict.{Verdict}
 use Rattle.ba_derivations.specs.declared.verdict.Verdict.TheVariants.{Located, NoRepair, TooMany, Spent}
-use Rattle.ba_encode.specs.Softs.{softs_of}
 use Rattle.ba_encode.specs.declared.encoded.Encoded.{Encoded}
 use Rattle.ba_enum.specs.Problems.{problem_in}
-use Rattle.ba_enum.specs.Leading.{AreNew, PutsBetween}
-use Rattle.ba_lits.specs.Formulas.{Cnf}
-use Rattle.ba_lits.specs.Satisfaction.{Assignment, all_true, Soft}
+use Rattle.ba_enum.specs.Leading.{AreNew, Puts}
+use Rattle.ba_lits.specs.Satisfaction.{Assignment, all_true}
 use Rattle.ba_steps.specs.Sinks.{Logs, with_step}
 use Rattle.ba_steps.specs.Steps.{IsFormed}
 use Rattle.ba_steps.specs.declared.step.CertStep.{CertStep}
-use Rattle.ba_choices.specs.Judges.{Judge}
 use Rattle.ba_checker.specs.Judging.{error_of, after, after_all}
 use Rattle.ba_checker.specs.Puts.{Checking, with_steps}
 use Rattle.ba_checker.specs.States.{State}
@@ -26,9 +23,9 @@ use Rattle.ba_tree.specs.Least.{AreInOrder}
 abbrev pub HaveSame : List FoundSet → List FoundSet → Type 0
 HaveSame xs ys = (b : FoundSet) → Contains xs b ↔ Contains ys b
 
--- STEPS SAY A VERDICT where they derive it. Its sets are those that they block, each with the run that it is blocked with: in
--- order, and no more than may be listed, where they are all; in the order in which they were blocked, where they are too
--- many. There is no repair only where the formula has no model.
+-- STEPS SAY A VERDICT where they derive it. Its sets are those that they block, each with the run that it is
+-- blocked with: in order, and no more than may be listed, where they are all; in the order in which they were
+-- blocked, where they are too many. There is no repair only where the formula has no model.
 abbrev pub Says : Problem → List CertStep → Verdict → Type 0
 Says p steps (Located weight sets) =
     Derives p steps (derived.Located weight (sets_of (blocked_by steps)))
@@ -39,9 +36,9 @@ Says p steps (TooMany weight sets) = Derives p steps (derived.TooMany weight (se
     × (sets ≡ blocked_by steps)
 Says p steps Spent = Derives p steps derived.Spent
 
--- ALL LEAST SETS ARE SEARCHED FOR: steps were put that lead from the start of the problem to the checker's state and say the
--- verdict; each clause that they learn is new to propagation where it is learnt; and each set that they block is that of a
--- model of the formula.
+-- ALL LEAST SETS ARE SEARCHED FOR: steps were put that lead from the start of the problem to the checker's
+-- state and say the verdict; each clause that they learn is new to propagation where it is learnt; and each
+-- set that they block is that of a model of the formula.
 pub record Enumerates (p : Problem) (old_logs : Logs) (verdict : Verdict) (new : State)
     (new_logs : Logs) : Type 0 where
   pub steps : List CertStep
@@ -62,42 +59,28 @@ Fits s found NoRepair said = said ≡ derived.NoRepair
 Fits s found (TooMany weight sets) said = (said ≡ derived.TooMany weight (sets_of sets)) × (sets ≡ found)
 Fits s found Spent said = said ≡ derived.Spent
 
--- an allowed End step was put, which has the form that its text asks for and says the verdict
-pub record Ends (good : Judge) (s : State) (found : List FoundSet) (old_logs : Logs) (verdict : Verdict)
-    (new : State)
-    (new_logs : Logs) : Type 0 where
+-- an allowed End step was put, which has the form that its text asks for and says the verdict, where these
+-- sets are blocked
+pub record EndsWith (found : List FoundSet) (old new : Checking) (verdict : Verdict) : Type 0 where
   pub last : CertStep
   pub said : derived.Verdict
   pub formed : IsFormed last
-  pub allowed : error_of good s last ≡ None
-  pub says : verdict_of s last ≡ Some said
-  pub fits : Fits s found verdict said
-  pub taken : new ≡ after s last
-  pub told : new_logs ≡ with_step last old_logs
+  pub allowed : error_of old.accepts old.checker last ≡ None
+  pub says : verdict_of old.checker last ≡ Some said
+  pub fits : Fits old.checker found verdict said
+  pub taken : new.checker ≡ after old.checker last
+  pub told : new.told.logs ≡ with_step last old.told.logs
 
--- sets were blocked, and then an End step was put
-pub record Finishes (good : Judge) (formula : Cnf) (softs : List Soft) (old : State) (old_logs : Logs)
-    (verdict : Verdict)
-    (new : State) (new_logs : Logs) : Type 0 where
+-- sets were blocked, and then such a step was put, under the same judge
+pub record Finishes (encoded : Encoded) (old new : Checking) (verdict : Verdict) : Type 0 where
   pub found : List FoundSet
-  pub between : State
-  pub logs : Logs
-  pub puts : PutsBetween good formula softs old between found old_logs logs
-  pub ends : Ends good between found logs verdict new new_logs
+  pub between : Checking
+  pub judge_stays : between.accepts ≡ old.accepts
+  pub puts : Puts encoded found old between
+  pub ends : EndsWith found between new verdict
 
--- OVER A LOG
-
--- all least sets over an encoding were searched for
+-- all least sets over an encoding were searched for, by the steps of a log
 abbrev pub EnumeratesIn : Encoded → Checking → Checking → Verdict → Type 0
-EnumeratesIn encoded old new verdict = Enumerates (problem_in encoded old.accepts old.checker) old.told.logs verdict
+EnumeratesIn encoded old new verdict = Enumerates (problem_in encoded old.accepts old.checker) old.told.logs
+    verdict
     new.checker new.told.logs
-
--- an End step was put that says the verdict, where these sets are blocked
-abbrev pub EndsWith : List FoundSet → Checking → Checking → Verdict → Type 0
-EndsWith found old new verdict =
-    Ends old.accepts old.checker found old.told.logs verdict new.checker new.told.logs
-
--- sets were blocked, and then such a step was put
-abbrev pub FinishesIn : Encoded → Checking → Checking → Verdict → Type 0
-FinishesIn encoded old new verdict = Finishes old.accepts encoded.formula (softs_of encoded.groups) old.checker
-    old.told.logs verdict new.checker new.told.logs

@@ -1,15 +1,20 @@
 -- Steps that lead from one state of a checker to another, and the sets that they block.
 
-use Rattle.std.specs.Prelude.{◌≡◌, ℕ, Bool, true, false, Some, List, [], ◌∷◌, ◌++◌, length, All}
+use Rattle.std.specs.Prelude.{◌≡◌, ℕ, Bool, true, false, None, Some, Result, OnOk, OnErr, List, [], ◌∷◌, ◌++◌, length, All, nat_eq}
+use Rattle.std.specs.Cmp.Lexicographic.{pointwise}
+use Rattle.std.specs.List.{IsDistinct, list_all}
 use Rattle.ba_derivations.specs.Derivations.{blocked_by, sets_of}
-use Rattle.ba_derivations.specs.Encodings.{HasModelFor}
+use Rattle.ba_derivations.specs.Encodings.{HasModelFor, false_groups}
 use Rattle.ba_derivations.specs.declared.verdict.FoundSet.{FoundSet}
+use Rattle.ba_encode.specs.Readings.{choices_read, is_in_range}
 use Rattle.ba_encode.specs.Softs.{softs_of}
 use Rattle.ba_encode.specs.declared.encoded.Encoded.{Encoded}
 use Rattle.ba_learn.specs.Live.{IsNew}
 use Rattle.ba_lits.specs.Formulas.{Cnf}
 use Rattle.ba_lits.specs.Satisfaction.{all_true, assignment_of, Soft, cost}
-use Rattle.ba_steps.specs.Sinks.{Logs}
+use Rattle.ba_search.specs.Searching.{Ran}
+use Rattle.ba_search.specs.declared.search.SearchError.{SearchError}
+use Rattle.ba_steps.specs.Sinks.{Logs, MayAddStep, with_step}
 use Rattle.ba_steps.specs.Steps.{IsFormed}
 use Rattle.ba_steps.specs.declared.step.CertStep.{CertStep}
 use Rattle.ba_steps.specs.declared.step.CertStep.TheVariants.{Learn, Core, Delete, Block, EndLocated, EndNoRepair, EndTooMany, EndSpent}
@@ -17,7 +22,7 @@ use Rattle.ba_checker.specs.Blocks.{block_clauses}
 use Rattle.ba_checker.specs.Facts.{IsStart}
 use Rattle.ba_choices.specs.Judges.{Judge}
 use Rattle.ba_checker.specs.Judging.{after, after_all, after_block}
-use Rattle.ba_checker.specs.Puts.{Checking, LeavesSteps, PutsSteps}
+use Rattle.ba_checker.specs.Puts.{Checking, IsTakenOrAsleep, LeavesSteps, PutsSteps}
 use Rattle.ba_checker.specs.States.{State, clause_at, first_state, present}
 
 -- the clause of a Learn step is new to propagation for the clauses that are live in the state
@@ -36,8 +41,8 @@ abbrev pub AreNew : State → List CertStep → Type 0
 AreNew s [] = Unit {0}
 AreNew s (step ∷ steps) = IsNewIn s step × AreNew (after s step) steps
 
--- each step is allowed in turn, has the form that its text asks for, and learns what is new; the blocked sets are these, each
--- that of a model of the formula
+-- each step is allowed in turn, has the form that its text asks for, and learns what is new; the blocked sets
+-- are these, each that of a model of the formula
 pub record Leads (good : Judge) (formula : Cnf) (softs : List Soft) (old : State) (steps : List CertStep)
     (new : State)
     (found : List FoundSet) : Type 0 where
@@ -55,11 +60,6 @@ pub record IsReached (good : Judge) (formula : Cnf) (softs : List Soft) (s : Sta
   pub most_sets : ℕ
   pub steps : List CertStep
   pub leads : Leads good formula softs (first_state formula softs conflicts most_sets) steps s found
-
--- such steps were put
-abbrev pub PutsBetween : Judge → Cnf → List Soft → State → State → List FoundSet → Logs → Logs → Type 0
-PutsBetween good formula softs old new found old_logs new_logs =
-    PutsSteps (λ steps. Leads good formula softs old steps new found) old_logs new_logs
 
 -- what allowed steps leave, also after an error
 abbrev pub LeavesBetween : Judge → State → Logs → State → Logs → Type 0
@@ -81,23 +81,6 @@ pub record IsReady (s : State) : Type 0 where
   pub begun : s.ended ≡ false
   pub awake : s.refused ≡ false
 
--- a set was blocked, and added to those found
-pub record Blocks (good : Judge) (formula : Cnf) (softs : List Soft) (old new : State)
-    (old_found new_found : List FoundSet)
-    (old_logs new_logs : Logs) : Type 0 where
-  pub set : FoundSet
-  pub puts : PutsBetween good formula softs old new (set ∷ []) old_logs new_logs
-  pub taken : new ≡ after_block old set.groups
-  pub found : new_found ≡ old_found ++ set ∷ []
-
--- sets were blocked, and added to those found
-pub record Adds (good : Judge) (formula : Cnf) (softs : List Soft) (old new : State)
-    (old_found new_found : List FoundSet)
-    (old_logs new_logs : Logs) : Type 0 where
-  pub more : List FoundSet
-  pub puts : PutsBetween good formula softs old new more old_logs new_logs
-  pub found : new_found ≡ old_found ++ more
-
 -- OVER AN ENCODING, whose groups are the soft literals, and a log
 
 abbrev pub HasReached : Encoded → Checking → List FoundSet → Type 0
@@ -106,10 +89,50 @@ HasReached encoded log = IsReached log.accepts encoded.formula (softs_of encoded
 abbrev pub IsNextModel : Encoded → Checking → List Bool → Type 0
 IsNextModel encoded log = IsNext encoded.formula (softs_of encoded.groups) log.checker
 
-abbrev pub BlocksSet : Encoded → Checking → Checking → List FoundSet → List FoundSet → Type 0
-BlocksSet encoded old new old_found new_found = Blocks old.accepts encoded.formula (softs_of encoded.groups)
-    old.checker new.checker old_found new_found old.told.logs new.told.logs
+-- a log that takes Block steps and End steps
+pub record MayPut (log : Checking) : Type 0 where
+  pub ready : IsReady log.checker
+  pub fresh : log.refusal ≡ None
 
-abbrev pub AddsSets : Encoded → Checking → Checking → List FoundSet → List FoundSet → Type 0
-AddsSets encoded old new old_found new_found = Adds old.accepts encoded.formula (softs_of encoded.groups)
-    old.checker new.checker old_found new_found old.told.logs new.told.logs
+-- a step was put that is allowed; or it was tried
+pub record PutsAllowed (step : CertStep) (result : Result Unit SearchError) (old new : Checking) : Type 0
+  where
+    pub taken : OnOk result (new.checker ≡ after old.checker step)
+    pub told : OnOk result (new.told.logs ≡ with_step step old.told.logs)
+    pub awake : OnOk result (new.checker.refused ≡ false)
+    pub taken_or_asleep : OnErr result (IsTakenOrAsleep old.checker step new.checker)
+    pub refused : OnErr result (MayAddStep step old.told.logs new.told.logs)
+    pub ran : Ran result old new
+
+-- such steps were put, which block these sets
+abbrev pub Puts : Encoded → List FoundSet → Checking → Checking → Type 0
+Puts encoded found old new =
+    PutsSteps (λ steps. Leads old.accepts encoded.formula (softs_of encoded.groups) old.checker steps
+    new.checker
+    found) old.told.logs new.told.logs
+
+-- what is blocked: the set of a model, with the run that is read from it
+pub record IsRead (encoded : Encoded) (values : List Bool) (set : FoundSet) : Type 0 where
+  pub groups : set.groups ≡ false_groups (assignment_of values) (softs_of encoded.groups)
+  pub run : set.run ≡ choices_read (assignment_of values) encoded.places
+  pub in_range : list_all is_in_range set.run ≡ true
+
+-- a set was blocked, and added to those found
+pub record BlocksSet (encoded : Encoded) (old new : Checking) (old_found new_found : List FoundSet) : Type 0
+  where
+    pub set : FoundSet
+    pub puts : Puts encoded (set ∷ []) old new
+    pub taken : new.checker ≡ after_block old.checker set.groups
+    pub found : new_found ≡ old_found ++ set ∷ []
+
+-- sets were blocked, and added to those found
+pub record AddsSets (encoded : Encoded) (old new : Checking) (old_found new_found : List FoundSet) : Type 0
+  where
+    pub more : List FoundSet
+    pub puts : Puts encoded more old new
+    pub found : new_found ≡ old_found ++ more
+
+-- the sets that are blocked are these, and they differ
+pub record HasFound (log : Checking) (found : List FoundSet) : Type 0 where
+  pub sets : log.checker.sets ≡ sets_of found
+  pub differ : IsDistinct (pointwise nat_eq) (sets_of found)

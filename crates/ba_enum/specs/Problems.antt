@@ -23,16 +23,18 @@ problem_in encoded good s = record {
   most_sets = s.most_sets;
 }
 
--- a search and a log at the start: the search has the live clauses of the checker, which is in the first state, over the
--- formula with the soft literals of its groups, lists at most so many sets, and has had no step refused
-pub record IsFresh {R : Type 0} (encoded : Encoded) (sets : ℕ) (search : Searching R) (log : Checking) : Type 0 where
+-- a search and a log at the start: the search has the live clauses of the checker, which is in the first
+-- state, over the formula with the soft literals of its groups, lists at most so many sets, and has had no
+-- step refused
+pub record IsFresh {R : Type 0} (encoded : Encoded) (sets : ℕ) (search : Searching R) (log : Checking) :
+    Type 0 where
   pub same : AreLive search.clauses (clause_at log.checker.clauses)
   pub starts : log.checker ≡ first_state encoded.formula (softs_of encoded.groups)
       log.checker.budget sets
   pub accepted : log.refusal ≡ None
 
--- for each model of the formula some selector is false, and the choices that are read from it are good for the groups
--- whose selectors are false
+-- for each model of the formula some selector is false, and the choices that are read from it are good for
+-- the groups whose selectors are false
 pub record IsReadable (encoded : Encoded) (good : Judge) : Type 0 where
   pub some : (v : Assignment) → all_true v encoded.formula.clauses ≡ true →
       false_groups v (softs_of encoded.groups) ≢ []

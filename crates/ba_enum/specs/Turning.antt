@@ -3,15 +3,13 @@
 use Rattle.std.specs.Prelude.{◌≡◌, ℕ, ◌+◌, ◌<◌, ◌≤◌, List, [], length}
 use Rattle.ba_cores.specs.Rounds.{literals_of}
 use Rattle.ba_derivations.specs.declared.verdict.FoundSet.{FoundSet}
-use Rattle.ba_encode.specs.Softs.{softs_of}
 use Rattle.ba_encode.specs.declared.encoded.Encoded.{Encoded}
-use Rattle.ba_enum.specs.Leading.{AddsSets, HasReached, IsNext, IsReady}
+use Rattle.ba_enum.specs.Leading.{AddsSets, HasReached, IsNextModel, IsReady}
 use Rattle.ba_enum.specs.declared.endings.End.{End}
 use Rattle.ba_enum.specs.declared.endings.End.TheVariants.{NoModel, TooMany, NoMore, Spent}
 use Rattle.ba_enum.specs.declared.task.Task.{Task}
 use Rattle.ba_enum.specs.declared.turns.Next.{Next}
 use Rattle.ba_enum.specs.declared.turns.Next.TheVariants as nexts
-use Rattle.ba_lits.specs.Formulas.{Cnf}
 use Rattle.ba_lits.specs.Hints.{FollowsByHints}
 use Rattle.ba_lits.specs.Literals.{Literal}
 use Rattle.ba_lits.specs.Satisfaction.{Soft}
@@ -45,16 +43,21 @@ next_of (answers.Core core) = nexts.End (NoMore core)
 next_of answers.Spent = nexts.End Spent
 
 -- what a turn comes to: a model of a further set, of which no more are found than may be listed, or the end
-abbrev pub Comes : Cnf → List Soft → State → List FoundSet → Next → Type 0
-Comes formula softs s found (nexts.Model m) = IsNext formula softs s m.values × (length found ≤ s.most_sets)
-Comes formula softs s found (nexts.End end) = IsEnd s found end
-
 abbrev pub ComesTo : Encoded → Checking → List FoundSet → Next → Type 0
-ComesTo encoded log = Comes encoded.formula (softs_of encoded.groups) log.checker
+ComesTo encoded log found (nexts.Model m) =
+    IsNextModel encoded log m.values × (length found ≤ log.checker.most_sets)
+ComesTo encoded log found (nexts.End end) = IsEnd log.checker found end
 
--- a search stands between two turns of a task: it may go on, these sets were blocked, the present soft literals are assumed,
--- and no more sets are found than may be listed
-pub record Stands {R : Type 0} (task : Task) (found : List FoundSet) (search : Searching R) (log : Checking) : Type 0 where
+-- a task over an encoding, which assumes these soft literals, and may list so many sets
+pub record IsTask (over : Encoded) (most : ℕ) (softs : List Soft) (task : Task) : Type 0 where
+  pub encoded : task.encoded.now ≡ over
+  pub assumptions : task.assumptions.items ≡ literals_of softs
+  pub sets : task.sets ≡ most
+
+-- a search stands between two turns of a task: it may go on, these sets were blocked, the present soft
+-- literals are assumed, and no more sets are found than may be listed
+pub record Stands {R : Type 0} (task : Task) (found : List FoundSet) (search : Searching R) (log : Checking) :
+    Type 0 where
   pub goes_on : MayGoOn search log
   pub reached : HasReached task.encoded.now log found
   pub assumed : task.assumptions.items ≡ literals_of log.checker.softs

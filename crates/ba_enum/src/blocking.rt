@@ -1,10 +1,8 @@
 //! Blocking the set of a model.
 
-ghost use Rattle.std.specs.Prelude.{◌≡◌, ◌+◌, ◌<◌, ◌≤◌, true, None, length, IfOk, OnOk};
-ghost use Rattle.std.specs.List.{list_all};
+ghost use Rattle.std.specs.Prelude.{◌≡◌, ◌+◌, ◌<◌, ◌≤◌, length, IfOk, OnOk};
 ghost use Rattle.ba_derivations.specs.Encodings.{is_false_group, false_groups};
-ghost use Rattle.ba_encode.specs.Readings.{choices_read, is_in_range};
-ghost use Rattle.ba_enum.specs.Leading.{BlocksSet, HasReached, IsNextModel, IsReady, Leaves};
+ghost use Rattle.ba_enum.specs.Leading.{BlocksSet, HasReached, IsNextModel, IsRead, Leaves, MayPut};
 ghost use Rattle.ba_enum.specs.Problems.{IsReadable};
 ghost use Rattle.ba_encode.specs.Softs.{softs_of};
 ghost use Rattle.ba_lits.specs.Satisfaction.{assignment_of};
@@ -36,8 +34,7 @@ pub fn block<L: ProofLog>(
     requires readable { IsReadable task.now.encoded.now (L.log log.old).accepts }
     requires reached { HasReached task.now.encoded.now (L.log log.old) found.old }
     requires next { IsNextModel task.now.encoded.now (L.log log.old) model.now.values }
-    requires ready { IsReady (L.log log.old).checker }
-    requires fresh { (L.log log.old).refusal ≡ None }
+    requires may_put { MayPut (L.log log.old) }
     ensures blocks { OnOk result (BlocksSet task.now.encoded.now
         (L.log log.old) (L.log log.new) found.old found.new) }
     ensures leaves { Leaves (L.log log.old) (L.log log.new) }
@@ -60,11 +57,7 @@ fn found_set(alloc: Global, task: &Task, model: &Model) -> Result<FoundSet, Allo
     requires long { task.now.encoded.now.formula.variables ≤ length model.now.values }
     requires softs { AreAmong task.now.encoded.now.formula.variables
         (present (softs_of task.now.encoded.now.groups)) }
-    ensures groups { IfOk result (λ set. set.groups
-        ≡ false_groups (assignment_of model.now.values) (softs_of task.now.encoded.now.groups)) }
-    ensures run { IfOk result (λ set. set.run
-        ≡ choices_read (assignment_of model.now.values) task.now.encoded.now.places) }
-    ensures in_range { IfOk result (λ set. list_all is_in_range set.run ≡ true) }
+    ensures { IfOk result (IsRead task.now.encoded.now model.now.values) }
 {
     Ok(FoundSet {
         groups: false_groups(alloc, task.softs.as_slice(), model)?,

@@ -6,7 +6,7 @@ ghost use Rattle.std.specs.List.{IsDistinct};
 ghost use Rattle.ba_derivations.specs.Derivations.{sets_of};
 ghost use Rattle.ba_enum.specs.Enumerating.{EndsWith, HaveSame};
 ghost use Rattle.ba_enum.specs.Turning.{IsEnd, IsLast};
-ghost use Rattle.ba_enum.specs.Leading.{IsReady, Leaves};
+ghost use Rattle.ba_enum.specs.Leading.{HasFound, Leaves, MayPut};
 ghost use Rattle.ba_search.specs.Searching.{Ran};
 ghost use Rattle.ba_tree.specs.Least.{AreInOrder};
 
@@ -41,10 +41,8 @@ pub fn finish<L: ProofLog>(
     log: &mut L,
 ) -> Result<Verdict, SearchError>
     requires end { IsEnd (L.log log.old).checker found end }
-    requires sets { (L.log log.old).checker.sets ≡ sets_of found }
-    requires differ { IsDistinct (pointwise nat_eq) (sets_of found) }
-    requires ready { IsReady (L.log log.old).checker }
-    requires fresh { (L.log log.old).refusal ≡ None }
+    requires found { HasFound (L.log log.old) found }
+    requires may_put { MayPut (L.log log.old) }
     ensures ends { IfOk result (EndsWith found (L.log log.old) (L.log log.new)) }
     ensures leaves { Leaves (L.log log.old) (L.log log.new) }
     ensures ran { Ran result (L.log log.old) (L.log log.new) }
@@ -81,10 +79,8 @@ fn locate<L: ProofLog>(
 ) -> Result<Verdict, SearchError>
     requires weight { weight ≡ (L.log log.old).checker.bound }
     requires core { IsLast (L.log log.old).checker found core.lits core.hints core.back }
-    requires sets { (L.log log.old).checker.sets ≡ sets_of found }
-    requires differ { IsDistinct (pointwise nat_eq) (sets_of found) }
-    requires ready { IsReady (L.log log.old).checker }
-    requires fresh { (L.log log.old).refusal ≡ None }
+    requires found { HasFound (L.log log.old) found }
+    requires may_put { MayPut (L.log log.old) }
     ensures ends { IfOk result (EndsWith found (L.log log.old) (L.log log.new)) }
     ensures leaves { Leaves (L.log log.old) (L.log log.new) }
     ensures ran { Ran result (L.log log.old) (L.log log.new) }

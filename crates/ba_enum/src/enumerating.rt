@@ -4,10 +4,10 @@ ghost use Rattle.std.specs.Prelude.{◌≡◌, [], None, Some, IfOk, Err};
 ghost use Rattle.ba_checker.specs.Facts.{IsStart};
 ghost use Rattle.ba_cores.specs.Rounds.{literals_of};
 ghost use Rattle.ba_encode.specs.Softs.{softs_of};
-ghost use Rattle.ba_enum.specs.Enumerating.{EnumeratesIn, FinishesIn};
+ghost use Rattle.ba_enum.specs.Enumerating.{EnumeratesIn, Finishes};
 ghost use Rattle.ba_enum.specs.Leading.{IsNextModel, Leaves};
 ghost use Rattle.ba_enum.specs.Problems.{IsFresh, IsReadable};
-ghost use Rattle.ba_enum.specs.Turning.{Stands};
+ghost use Rattle.ba_enum.specs.Turning.{IsTask, Stands};
 ghost use Rattle.ba_search.specs.Searching.{RanSearch};
 ghost use Rattle.ba_search.specs.declared.search.SearchError.{SearchError};
 
@@ -47,8 +47,7 @@ pub fn all_sets<L: ProofLog, R: SearchRules + Drop>(
     ensures leaves { search.old.failure ≡ None → Leaves (L.log log.old) (L.log log.new) }
     ensures again { (error : SearchError) → search.old.failure ≡ Some error
         → (result ≡ Err error) × (search.new ≡ search.old) × (log.new ≡ log.old) }
-    ensures ran { RanSearch result search.old search.new
-        (L.log log.old) (L.log log.new) }
+    ensures ran { RanSearch result search.old search.new (L.log log.old) (L.log log.new) }
 {
     match least(alloc, search, log)? {
         Found::NoModel { hints } => finish(End::NoModel(hints), Items::new(alloc), log),
@@ -74,11 +73,9 @@ fn enumerate<L: ProofLog, R: SearchRules + Drop>(
     requires readable { IsReadable task.now.encoded.now (L.log log.old).accepts }
     requires stands { Stands task.now [] search.old (L.log log.old) }
     requires next { IsNextModel task.now.encoded.now (L.log log.old) model.values }
-    ensures finishes { IfOk result (FinishesIn task.now.encoded.now
-        (L.log log.old) (L.log log.new)) }
+    ensures finishes { IfOk result (Finishes task.now.encoded.now (L.log log.old) (L.log log.new)) }
     ensures leaves { Leaves (L.log log.old) (L.log log.new) }
-    ensures ran { RanSearch result search.old search.new
-        (L.log log.old) (L.log log.new) }
+    ensures ran { RanSearch result search.old search.new (L.log log.old) (L.log log.new) }
 {
     let mut model = model;
     let mut found = Items::new(alloc);
@@ -99,9 +96,7 @@ fn task_of<'a>(
     sets: u32,
     softs: &[(Lit, u32)],
 ) -> Result<Task<'a>, AllocError>
-    ensures encoded { IfOk result (λ task. task.encoded.now ≡ encoded.now) }
-    ensures assumptions { IfOk result (λ task. task.assumptions.items ≡ literals_of softs.now) }
-    ensures sets { IfOk result (λ task. task.sets ≡ sets) }
+    ensures { IfOk result (IsTask encoded.now sets softs.now) }
 {
     Ok(Task {
         encoded,

@@ -34,8 +34,10 @@ pub fn formula_of(
 {
     let looping = inline(alloc, program, bounds.frames)?;
     let straight = unroll(alloc, &looping, bounds.turns)?;
+    drop(looping);
     inputs_are_words();
     let words = guard(alloc, &straight, input)?;
+    drop(straight);
     let grouping = Grouping::ByStatement(Weights {
         of: Items::from_slice(alloc, weights.of.as_slice())?,
     });

@@ -1,5 +1,5 @@
 -- Nodes without parts, each from the calls that make its words.
-use Rattle.std.proofs.Common.{rules, ◌≡◌, ℕ, ◌<◌, ◌≤◌, ℤ, pos, Bool, true, false, not, ◌&&◌, cond, Option, Some, None, List, [], ◌++◌, length, get_or, refl, sym, ◌∙◌, ap, subst, arith, append_assoc, append-nil, length-append}
+use Rattle.std.proofs.Common.{rules, ◌≡◌, ℕ, ◌<◌, ◌≤◌, ℤ, pos, Bool, true, false, not, ◌&&◌, cond, Option, Some, None, List, [], ◌++◌, length, get_or, refl, sym, ◌∙◌, ap, subst, arith, append_assoc, append-nil, length-append, ◌∷◌}
 use Rattle.std.proofs.lemmas.Bool.{and_parts}
 use Rattle.std.specs.Ordering.{int_eq}
 use Rattle.std.specs.Prelude.{int_div, int_rem, slice_set}
@@ -10,7 +10,7 @@ use Rattle.ba_code.specs.State.{operand_value, or_trap_at, set_variable}
 use Rattle.ba_code.specs.declared.nodes.Operand.{Operand}
 use Rattle.ba_code.specs.declared.nodes.Operand.TheVariants as operand
 use Rattle.ba_code_laws.specs.Tracing.{Relaxes, Traced, untraced}
-use Rattle.ba_guards.proofs.Going.{AreLocal, in_turn, left-resting, means-as, means-before, means-steady, means-then, traced_of}
+use Rattle.ba_guards.proofs.Going.{AreLocal, extends-none, in_turn, left-resting, means-as, means-before, means-steady, means-then, traced_of}
 use Rattle.ba_guards.proofs.Growing.{fits-grown, name-at, word-later}
 use Rattle.ba_guards.proofs.Leaves.{leaf-runs}
 use Rattle.ba_guards.proofs.Nodes.{assign-node, check-node, emits-after, reads, word-agree}
@@ -74,7 +74,7 @@ assigned-by : (d : Declared) (old b1 new : Builder) (to : ℕ) (w v : ℕ) (o : 
     (value : ℤ → ℤ)
     → Fits d old → is_var d to ≡ true → Reads d old b1 w o
     → Emits b1.words ws v (λ f. value (word_in b1.words w f)) →
-    new ≡ record b1 { words = ws; vars = slice_set b1.vars to v }
+    new ≡ record b1 { words = ws; vars = slice_set b1.vars to v; written = b1.written ++ to ∷ [] }
     → Means d (λ f r. untraced (λ c. set_variable to (value (operand_value c o)) c)) old new
 assigned-by d old b1 new to w v o ws value fits there reads_o e is =
     let whole : Emits old.words ws v (λ f. value (operand_at (values_of f old.words) old.vars o)) =
@@ -82,8 +82,13 @@ assigned-by d old b1 new to w v o ws value fits there reads_o e is =
     (λ f. value (word_in b1.words w f)) (λ f. value (operand_at (values_of f old.words) old.vars o))
     reads_o.word e
     (λ f. ap value (reads_o.word.has f)) in
-    let form : new ≡ record old { words = ws; vars = slice_set old.vars to v } =
-    is ∙ ap (λ (b : Builder). record b { words = ws; vars = slice_set b.vars to v }) reads_o.same in
+    let form : new
+    ≡ record old { words = ws; vars = slice_set old.vars to v; written = old.written ++ to ∷ [] } =
+    is ∙ ap (λ (b : Builder). record b {
+      words = ws;
+      vars = slice_set b.vars to v;
+      written = b.written ++ to ∷ [];
+    }) reads_o.same in
     means-as d (λ f r. untraced (λ c. set_variable to (value (operand_at (values_of f old.words) old.vars
     o)) c))
     (λ f r. untraced (λ c. set_variable to (value (operand_value c o)) c)) old new
@@ -96,7 +101,8 @@ module _ (d : Declared) (old b1 new : Builder) (to : ℕ) (w : ℕ) (o : Operand
     (same : b1 ≡ record old { words = b1.words })
     (word : (d : Declared) → Fits d old → is_operand d o ≡ true
     → Emits old.words b1.words w (λ f. operand_at (values_of f old.words) old.vars o)) where
-  pub set-arm : (is_var d to && is_operand d o) ≡ true → new ≡ record b1 { vars = slice_set b1.vars to w }
+  pub set-arm : (is_var d to && is_operand d o) ≡ true
+      → new ≡ record b1 { vars = slice_set b1.vars to w; written = b1.written ++ to ∷ [] }
       → Means d (λ f r. set_part to o) old new
   set-arm h is =
       let both = and_parts (is_var d to) (is_operand d o) h in
@@ -113,7 +119,7 @@ module _ (d : Declared) (old b1 new : Builder) (to : ℕ) (w : ℕ) (o : Operand
       (is_var d to && is_promoted t && is_operand d o) ≡ true
       → (are_words b1.words ≡ true → is_promoted t ≡ true → w < length b1.words
       → Emits b1.words ws v (λ f. converting.unary op t (word_in b1.words w f)))
-      → new ≡ record b1 { words = ws; vars = slice_set b1.vars to v } →
+      → new ≡ record b1 { words = ws; vars = slice_set b1.vars to v; written = b1.written ++ to ∷ [] } →
       Means d (λ f r. unary_part to op t o) old new
   unary-arm op t ws v h e is =
       let all = and_parts (is_var d to && is_promoted t) (is_operand d o) h in
@@ -125,7 +131,7 @@ module _ (d : Declared) (old b1 new : Builder) (to : ℕ) (w : ℕ) (o : Operand
   pub convert-arm : (t : CType) (ws : List WordOp) (v : ℕ) → (is_var d to && is_operand d o) ≡ true
       → (are_words b1.words ≡ true → w < length b1.words →
       Emits b1.words ws v (λ f. converted t (word_in b1.words w f)))
-      → new ≡ record b1 { words = ws; vars = slice_set b1.vars to v } →
+      → new ≡ record b1 { words = ws; vars = slice_set b1.vars to v; written = b1.written ++ to ∷ [] } →
       Means d (λ f r. convert_part to t o) old new
   convert-arm t ws v h e is =
       let both = and_parts (is_var d to) (is_operand d o) h in
@@ -138,7 +144,7 @@ pub check-nothing : (d : Declared) (b : Builder) (halt : Halt) (test : Assignmen
     → ((f : Assignment) → test f ≡ true) → Means d (λ f r. checked (λ c. test f) halt) b b
 check-nothing d b halt test fits passes = means-steady d (λ f r. checked (λ c. test f) halt) b b (λ f.
     true) (record {
-      extends = record { more = []; words = sym (append-nil b.words); labels = refl };
+      extends = extends-none b;
       fits = fits;
       logs = λ f. refl;
       keeps = λ f. sym (and-true (met f b));
@@ -244,7 +250,11 @@ module _ (d : Declared) (old b1 b2 b3 new : Builder) (to : ℕ) (lw rw : ℕ) (l
     (check : Checks d b2 b3 (Trap stmt) (λ f. test (word_in b2.words lw f) (word_in b2.words rw f)))
     (ws : List WordOp) (w : ℕ) (e : Emits b3.words ws w (λ f. value (word_in b3.words lw f) (word_in
     b3.words rw f)))
-    (is : new ≡ record b3 { words = ws; vars = slice_set b3.vars to w }) where
+    (is : new ≡ record b3 {
+      words = ws;
+      vars = slice_set b3.vars to w;
+      written = b3.written ++ to ∷ [];
+    }) where
   grown2 : b2.words ≡ old.words ++ (first.word.more ++ second.word.more)
   grown2 = second.word.grown ∙ ap (λ ws. ws ++ second.word.more) first.word.grown
       ∙ append_assoc old.words first.word.more second.word.more
@@ -358,7 +368,7 @@ pub binary-arm : (d : Declared) (old b1 b2 b3 new : Builder) (to : ℕ) (op : Bi
     → (ws : List WordOp) (w : ℕ)
     → (are_words b3.words ≡ true → is_promoted t ≡ true → lw < length b3.words → rw < length b3.words
     → Emits b3.words ws w (λ f. binary_value op t (word_in b3.words lw f) (word_in b3.words rw f)))
-    → new ≡ record b3 { words = ws; vars = slice_set b3.vars to w }
+    → new ≡ record b3 { words = ws; vars = slice_set b3.vars to w; written = b3.written ++ to ∷ [] }
     → Means d (λ f r. binary_part to op t left right stmt) old new
 binary-arm d old b1 b2 b3 new to op t lw rw left right stmt fits h same1 word1 same2 word2 check ws w e is =
     let all = and_parts (is_var d to && is_promoted t && is_operand d left) (is_operand d right) h in

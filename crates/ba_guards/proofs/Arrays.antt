@@ -1,5 +1,5 @@
 -- What the values of a choice do to an array, from the words that are made for them.
-use Rattle.std.proofs.Common.{◌≡◌, ℕ, ◌<◌, ◌≤◌, ◌==◌, ℤ, pos, Bool, true, false, ◌&&◌, cond, Some, None, option_map, List, [], ◌∷◌, map, length, get_or, refl, sym, ◌∙◌, ap, subst, arith, append-nil, length-append}
+use Rattle.std.proofs.Common.{◌≡◌, ℕ, ◌<◌, ◌≤◌, ◌==◌, ℤ, pos, Bool, true, false, ◌&&◌, cond, Some, None, option_map, List, [], ◌∷◌, map, length, get_or, refl, sym, ◌∙◌, ap, subst, arith, append-nil, length-append, ◌++◌}
 use Rattle.std.proofs.lemmas.Bool.{and_from, and_parts, eq-eqb, eqb-true}
 use Rattle.std.proofs.lemmas.List.{length-map}
 use Rattle.std.specs.List.{list_all}
@@ -157,7 +157,7 @@ pub value-arm : (d : Declared) (b new : Builder) (to w : ℕ) (t : CType) (words
     is_var d to ≡ true
     → are_names (length b.words) words ≡ true → ((f : Assignment) →
     are_right d (Value to t) (values_in b.words words f) ≡ true)
-    → w ≡ get_or words 0 0 → new ≡ record b { vars = slice_set b.vars to w }
+    → w ≡ get_or words 0 0 → new ≡ record b { vars = slice_set b.vars to w; written = b.written ++ to ∷ [] }
     → Means d (λ f r. picked d (Value to t) (values_in b.words words f)) b new
 value-arm d b new to w t words fits there names right at is =
     let one : words ≡ w ∷ [] = one-word (is_in t) (λ w. word_in b.words w nowhere) words (right nowhere) ∙
@@ -178,7 +178,7 @@ value-arm d b new to w t words fits there names right at is =
 pub truth-arm : (d : Declared) (b new : Builder) (to w : ℕ) (words : List ℕ) → Fits d b → is_var d to ≡ true
     → are_names (length b.words) words ≡ true → ((f : Assignment) →
     are_right d (Truth to) (values_in b.words words f) ≡ true)
-    → w ≡ get_or words 0 0 → new ≡ record b { vars = slice_set b.vars to w }
+    → w ≡ get_or words 0 0 → new ≡ record b { vars = slice_set b.vars to w; written = b.written ++ to ∷ [] }
     → Means d (λ f r. picked d (Truth to) (values_in b.words words f)) b new
 truth-arm d b new to w words fits there names right at is =
     let one : words ≡ w ∷ [] = one-word is_zero_or_one (λ w. word_in b.words w nowhere) words (right nowhere)

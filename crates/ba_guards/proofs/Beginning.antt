@@ -1,5 +1,5 @@
 -- Where a run begins.
-use Rattle.std.proofs.Common.{rules, ◌≡◌, ℕ, zero, suc, ◌+◌, ◌<◌, ◌≤◌, ◌==◌, ℤ, pos, true, ◌&&◌, cond, Some, Ok, List, [], ◌∷◌, ◌++◌, map, length, get_or, slice_get, replicate, take, refl, sym, ◌∙◌, ap, subst, arith, append_assoc, append-nil, length-append}
+use Rattle.std.proofs.Common.{rules, ◌≡◌, ℕ, zero, suc, ◌+◌, ◌<◌, ◌≤◌, ◌==◌, ℤ, pos, true, ◌&&◌, cond, Some, Ok, List, [], ◌∷◌, ◌++◌, map, length, get_or, None, slice_get, replicate, take, refl, sym, ◌∙◌, ap, subst, arith, append_assoc, append-nil, length-append}
 use Rattle.std.proofs.lemmas.Bool.{and_from, and_parts, eq-eqb}
 use Rattle.std.proofs.lemmas.List.{get_or-replicate, length-map, length-replicate, map-append, take_more}
 use Rattle.std.proofs.lemmas.List.Folds.{list_all-append, list_all-map}
@@ -21,6 +21,7 @@ use Rattle.ba_guards.proofs.Filling.{elements-all}
 use Rattle.ba_guards.proofs.Going.{ended-some, means-as, traced_of}
 use Rattle.ba_guards.proofs.Growing.{array-long, extensional, same-grown, all-at}
 use Rattle.ba_guards.proofs.Stores.{array-below}
+use Rattle.ba_guards.proofs.Writing.{since-push, written-push}
 use Rattle.ba_guards.specs.Continuing.{continued, ended, labels_of}
 use Rattle.ba_guards.specs.Making.{AreFit, EmitsArray, Fits, Means, elements_in, fits_exit}
 use Rattle.ba_guards.specs.Parts.{declared, fill_part, set_part}
@@ -152,7 +153,14 @@ zero-at (suc n) zero = refl
 zero-at (suc n) (suc k) = zero-at n k
 
 abbrev bottom_exit : ℕ → Exit
-bottom_exit vars = record { label = 0; live = 0; vars = replicate vars 0 }
+bottom_exit vars = record {
+  label = 0;
+  since = 0;
+  base = replicate vars 0;
+  live = 0;
+  vars = replicate vars 0;
+  written = [];
+}
 
 abbrev first_builder : ℕ → List WordOp → List ℕ → Builder
 first_builder vars ws versions = record {
@@ -160,6 +168,7 @@ first_builder vars ws versions = record {
   require = [];
   places = [];
   vars = replicate vars 0;
+  written = [];
   arrays = versions;
   live = 1;
   exits = bottom_exit vars ∷ [];
@@ -223,6 +232,13 @@ module _ (vars : ℕ) (infos : List ArrayInfo) (ws : List WordOp) (versions : Li
     apart = λ f on. ap (λ z. cond (is_nonzero z) (left 0 (variables_at (values_of f ws) (replicate vars
         0))) idle) (is-zero f);
     single = λ f. ap (λ z. cond (is_nonzero z) true true) (is-zero f);
+    since = since-push [] (replicate vars 0) [] (0, replicate vars 0)
+        (λ i frame found. absurd (let f : None ≡ Some frame = found in cc)) (record {
+          since = omega arith;
+          agrees = λ k h. refl;
+        });
+    written = written-push [] (bottom_exit vars)
+        (λ i e found. absurd (let f : None ≡ Some e = found in cc)) (λ k h. refl);
   }
 
   pub starts-zero : Starts (declared vars infos) b (all_zero infos [])
@@ -260,9 +276,17 @@ module _ (vars : ℕ) (infos : List ArrayInfo) (ws : List WordOp) (versions : Li
 
 pub started : (vars : ℕ) (infos : List ArrayInfo) (first ws : List WordOp) (versions require : List ℕ)
     (places : List PlaceWords)
-    (names below : List ℕ) (exits : List Exit) → first ≡ first_words → require ≡ [] → places ≡ [] →
-    names ≡ replicate vars 0
-    → below ≡ replicate vars 0 → exits ≡ (record { label = 0; live = 0; vars = below }) ∷ []
+    (names written base below own : List ℕ) (exits : List Exit) → first ≡ first_words → require ≡ []
+    → places ≡ [] → names ≡ replicate vars 0 → written ≡ []
+    → base ≡ replicate vars 0 → below ≡ replicate vars 0 → own ≡ []
+    → exits ≡ (record {
+      label = 0;
+      since = 0;
+      base = base;
+      live = 0;
+      vars = below;
+      written = own;
+    }) ∷ []
     → list_all is_array_info infos ≡ true
     → (are_words first ≡ true → list_all is_array_info infos ≡ true → AreZero first ws versions infos)
     → Starts (declared vars infos) (record {
@@ -270,31 +294,51 @@ pub started : (vars : ℕ) (infos : List ArrayInfo) (first ws : List WordOp) (ve
       require = require;
       places = places;
       vars = names;
+      written = written;
       arrays = versions;
       live = 1;
       exits = exits;
     }) (all_zero infos [])
-started vars infos first ws versions require places names below exits is_first is_none no_place are_names
-    are_below is_exit fit zeros =
+started vars infos first ws versions require places names written base below own exits is_first is_none
+    no_place are_names unwritten is_base are_below is_own is_exit fit zeros =
     let z : AreZero first_words ws versions infos =
     subst (λ first. AreZero first ws versions infos) is_first
     (zeros (ap are_words is_first ∙ first-fit) fit) in
     let bottom : exits ≡ bottom_exit vars ∷ [] =
-    is_exit ∙ ap (λ vs. only vs ∷ []) are_below in
+    is_exit ∙ (λ i. (record {
+      label = 0;
+      since = 0;
+      base = is_base i;
+      live = 0;
+      vars = are_below i;
+      written = is_own i;
+    }) ∷ []) in
     let same : record {
       words = ws;
       require = require;
       places = places;
       vars = names;
+      written = written;
       arrays = versions;
       live = 1;
       exits = exits;
     } ≡ first_builder vars ws versions =
-    ap (λ r. record {
+    ap (λ ns. record {
+      words = ws;
+      require = require;
+      places = places;
+      vars = names;
+      written = ns;
+      arrays = versions;
+      live = 1;
+      exits = exits;
+    }) unwritten
+    ∙ ap (λ r. record {
       words = ws;
       require = r;
       places = places;
       vars = names;
+      written = [];
       arrays = versions;
       live = 1;
       exits = exits;
@@ -304,6 +348,7 @@ started vars infos first ws versions require places names below exits is_first i
       require = [];
       places = p;
       vars = names;
+      written = [];
       arrays = versions;
       live = 1;
       exits = exits;
@@ -313,6 +358,7 @@ started vars infos first ws versions require places names below exits is_first i
       require = [];
       places = [];
       vars = v;
+      written = [];
       arrays = versions;
       live = 1;
       exits
@@ -323,15 +369,14 @@ started vars infos first ws versions require places names below exits is_first i
       require = [];
       places = [];
       vars = replicate vars 0;
+      written = [];
       arrays = versions;
       live = 1;
       exits = e;
     })
     bottom in
     subst (λ b. Starts (declared vars infos) b (all_zero infos [])) (sym same) (starts-zero vars infos ws
-    versions z) where
-      only : List ℕ → Exit
-      only vs = record { label = 0; live = 0; vars = vs }
+    versions z)
 
 -- A PARAMETER
 

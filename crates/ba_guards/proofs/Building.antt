@@ -1,5 +1,5 @@
 -- What the calls of the builder leave, from the words that they make.
-use Rattle.std.proofs.Common.{not, ◌≡◌, ℕ, zero, suc, ◌<◌, ◌≤◌, ◌==◌, pos, Bool, true, false, ◌&&◌, cond, Some, None, List, [], ◌∷◌, ◌++◌, length, get_or, slice_get, refl, sym, ◌∙◌, ap, subst, ◌||◌, arith, append_assoc, append-nil, length-append}
+use Rattle.std.proofs.Common.{not, ◌≡◌, ℕ, zero, suc, ◌<◌, ◌≤◌, ◌==◌, pos, Bool, true, false, ◌&&◌, cond, Some, None, List, [], ◌∷◌, ◌++◌, length, get_or, drop, take, slice_get, refl, sym, ◌∙◌, ap, subst, ◌||◌, arith, append_assoc, append-nil, length-append}
 use Rattle.std.proofs.lemmas.Bool.{and_from, and_parts, eqb-true, not-true, cond-true, cond-false}
 use Rattle.std.proofs.lemmas.List.Folds.{list_all-append}
 use Rattle.std.proofs.lemmas.List.{length-map}
@@ -13,8 +13,10 @@ use Rattle.ba_guards.proofs.Exiting.{exit-within}
 use Rattle.ba_guards.proofs.Forks.{later-met, later-visits, or-nonzero}
 use Rattle.ba_guards.proofs.Growing.{fits-grown, same-grown, snapshot-kept, variables-same, word-later}
 use Rattle.ba_guards.proofs.Leaves.{fits-require}
+use Rattle.ba_guards.proofs.Writing.{among-parts, exit-since, gathered-by, last-found, ways-agree, writes-none}
+use Rattle.ba_guards.specs.Written.{AgreeBut, is_among}
 use Rattle.ba_guards.specs.Continuing.{exit_of, labels_of}
-use Rattle.ba_guards.specs.Making.{AreSides, Closes, Demands, EitherWay, Emits, Fits, Leaving, Merges, Opens, Switches, fits_exit, Joins, holds_in, word_in}
+use Rattle.ba_guards.specs.Making.{AreSides, Closes, Demands, EitherWay, Emits, Fits, Gathers, Leaving, Merges, Opens, Switches, fits_exit, Joins, holds_in, word_in}
 use Rattle.ba_guards.specs.Reading.{is_live, met, snapshot, variables_at}
 use Rattle.ba_guards.specs.declared.builder.Builder.{Builder}
 use Rattle.ba_guards.specs.declared.builder.Sides.{Sides}
@@ -55,14 +57,19 @@ opens-by d old new which fits below same e = record {
       fits f));
 }
 
-pub switches-by : (d : Declared) (old new : Builder) (which live : ℕ) (vars : List ℕ) → Fits d old →
+pub switches-by : (d : Declared) (old new : Builder) (which since live : ℕ) (vars : List ℕ) → Fits d old →
     which < length old.words
-    → live < length old.words → new ≡ record old { words = new.words; live = new.live; vars = vars }
+    → live < length old.words → new ≡ record old {
+      words = new.words;
+      live = new.live;
+      vars = vars;
+      written = take since old.written;
+    }
     → (are_words old.words ≡ true → which < length old.words → 0 < length old.words → live < length old.words
     → Emits old.words new.words new.live (λ f. cond (is_nonzero (word_in old.words which f)) (word_in
     old.words 0 f) (word_in old.words live f)))
-    → Switches live vars old new which
-switches-by d old new which live vars fits below live_below same e = record {
+    → Switches since live vars old new which
+switches-by d old new which since live vars fits below live_below same e = record {
   same = same;
   live = emits-as old.words new.words new.live
       (λ f. cond (is_nonzero (word_in old.words which f)) (word_in old.words 0 f) (word_in old.words live f))
@@ -165,40 +172,32 @@ both-sides true true = refl
 both-sides true false = refl
 both-sides false live = refl
 
-pub joins-whole : (d : Declared) (old new : Builder) (s : Sides) → Fits d old → AreSides old.words s
-    → s.after.live ≡ s.first → old.live ≡ s.second
-    → new ≡ record old { words = new.words; live = s.live; vars = new.vars }
-    → Merges old.words new.words (length old.vars) (holds_in old.words s.which) s.after.vars old.vars new.vars
-    → Joins s.after.live s.after.vars old new
-joins-whole d old new s fits sides one two same m = record {
-  same = same ∙ ap (λ live. record old { words = new.words; live = live; vars = new.vars }) (sym live);
-  ways = record {
-    more = m.more;
-    grown = m.grown;
-    fit = m.fit;
-    name = omega (arith, sides.came, live, ap length m.grown, length-append old.words m.more);
-    names = m.names;
-    long = m.long;
-    on = λ f. ap (λ w. holds_in new.words w f) live
-        ∙ ap is_nonzero (word-later f old.words new.words m.more s.live m.grown sides.came)
-        ∙ both-sides (holds_in old.words s.which f) (holds_in old.words s.live f)
-        ∙ ap (λ b. b || (not (holds_in old.words s.which f) && holds_in old.words s.live f)) (sym (first f))
-        ∙ ap (λ b. holds_in old.words s.after.live f || b) (sym (second f));
-    first = λ f on. m.has f ∙ cond-true (holds_in old.words s.which f) (variables_at (values_of f old.words)
-        s.after.vars)
-        (variables_at (values_of f old.words) old.vars)
-        (and_parts (holds_in old.words s.which f) (holds_in old.words s.live f) (sym (first f) ∙ on)).0;
-    second = λ f off on. m.has f ∙ cond-false (holds_in old.words s.which f) (variables_at (values_of f
-        old.words) s.after.vars)
-        (variables_at (values_of f old.words) old.vars)
-        (not-true (holds_in old.words s.which f)
-        (and_parts (not (holds_in old.words s.which f)) (holds_in old.words s.live f) (sym (second f) ∙
-        on)).0);
-  };
+pub sides-whole : (d : Declared) (old : Builder) (ws : List WordOp) (vars : List ℕ) (s : Sides) → Fits d old
+    → AreSides old.words s → s.after.live ≡ s.first → old.live ≡ s.second
+    → Merges old.words ws (length old.vars) (holds_in old.words s.which) s.after.vars old.vars vars
+    → EitherWay old.words ws (length old.vars) s.after.live s.after.vars old.live old.vars s.live vars
+sides-whole d old ws vars s fits sides one two m = record {
+  more = m.more;
+  grown = m.grown;
+  fit = m.fit;
+  name = omega (arith, sides.came, ap length m.grown, length-append old.words m.more);
+  names = m.names;
+  long = m.long;
+  on = λ f. ap is_nonzero (word-later f old.words ws m.more s.live m.grown sides.came)
+      ∙ both-sides (holds_in old.words s.which f) (holds_in old.words s.live f)
+      ∙ ap (λ b. b || (not (holds_in old.words s.which f) && holds_in old.words s.live f)) (sym (first f))
+      ∙ ap (λ b. holds_in old.words s.after.live f || b) (sym (second f));
+  first = λ f on. m.has f ∙ cond-true (holds_in old.words s.which f) (variables_at (values_of f old.words)
+      s.after.vars)
+      (variables_at (values_of f old.words) old.vars)
+      (and_parts (holds_in old.words s.which f) (holds_in old.words s.live f) (sym (first f) ∙ on)).0;
+  second = λ f off on. m.has f ∙ cond-false (holds_in old.words s.which f) (variables_at (values_of f
+      old.words) s.after.vars)
+      (variables_at (values_of f old.words) old.vars)
+      (not-true (holds_in old.words s.which f)
+      (and_parts (not (holds_in old.words s.which f)) (holds_in old.words s.live f) (sym (second f) ∙
+      on)).0);
 } where
-  live : new.live ≡ s.live
-  live = ap (λ (b : Builder). b.live) same
-
   first : (f : Assignment) →
       holds_in old.words s.after.live f ≡ (holds_in old.words s.which f && holds_in old.words s.live f)
   first f = ap (λ w. holds_in old.words w f) one ∙ sides.first f
@@ -206,6 +205,30 @@ joins-whole d old new s fits sides one two same m = record {
   second : (f : Assignment) →
       holds_in old.words old.live f ≡ (not (holds_in old.words s.which f) && holds_in old.words s.live f)
   second f = ap (λ w. holds_in old.words w f) two ∙ sides.second f
+
+pub joined-by : (d : Declared) (old mid new : Builder) (s : Sides) (numbers : List ℕ) → Fits d old
+    → s.after.live < length old.words → are_names (length old.words) s.after.vars ≡ true
+    → length s.after.vars ≡ length old.vars → AreSides old.words s
+    → AgreeBut s.written s.before s.after.vars → AgreeBut (drop s.since old.written) s.before old.vars
+    → ((n : ℕ) → is_among n numbers ≡ is_among n (drop s.since old.written ++ s.written))
+    → mid ≡ record old { words = mid.words; live = mid.live; vars = mid.vars }
+    → (AgreeBut numbers s.after.vars old.vars → AgreeBut numbers old.vars mid.vars)
+    → ((d : Declared) → Fits d old → s.after.live < length old.words
+    → are_names (length old.words) s.after.vars ≡ true → length s.after.vars ≡ length old.vars
+    → AreSides old.words s → AgreeBut numbers s.after.vars old.vars
+    → EitherWay old.words mid.words (length old.vars) s.after.live s.after.vars old.live old.vars
+    mid.live mid.vars)
+    → new ≡ record mid { written = new.written }
+    → (AgreeBut numbers s.before mid.vars → Gathers s.since s.before mid new)
+    → Joins s.since s.before s.after.live s.after.vars old new
+joined-by d old mid new s numbers fits below names long sides there here among same kept ways after gathers =
+    subst (Joins s.since s.before s.after.live s.after.vars old) (sym after) (record {
+      same = ap (λ (b : Builder). record b { written = new.written }) same;
+      gathers = gathered-by old mid new s.since s.before s.after.vars s.written numbers among there here kept
+          (ap (λ (b : Builder). b.written) same) after gathers;
+      ways = ways d fits below names long sides
+          (ways-agree old mid new s.since s.before s.after.vars s.written numbers among there here);
+    })
 
 exit-last : (count vars : ℕ) (es : List Exit) (e : Exit) →
     list_all (fits_exit count vars) (es ++ e ∷ []) ≡ true
@@ -223,24 +246,34 @@ exit-names count vars e h =
     let two = and_parts (is_name count e.live) (are_names count e.vars) all.0 in
     (of_name count e.live two.0, two.1, eqb-true (length e.vars) vars all.1)
 
-pub closes-by : (d : Declared) (old new : Builder) (exit : Exit) → Fits d old →
-    old.exits ≡ new.exits ++ exit ∷ []
-    → new ≡ record old { words = new.words; live = new.live; vars = new.vars; exits = new.exits }
+pub closes-by : (d : Declared) (old mid new : Builder) (exit : Exit) (numbers : List ℕ) → Fits d old
+    → old.exits ≡ mid.exits ++ exit ∷ []
+    → mid ≡ record old { words = mid.words; live = mid.live; vars = mid.vars; exits = mid.exits }
+    → ((n : ℕ) → is_among n numbers ≡ is_among n (drop exit.since old.written ++ exit.written))
+    → (AgreeBut numbers exit.vars old.vars → AgreeBut numbers old.vars mid.vars)
     → (are_words old.words ≡ true → slice_get old.words 1 ≡ Some (Const (pos 1)) →
     exit.live < length old.words
     → are_names (length old.words) exit.vars ≡ true → old.live < length old.words →
     are_names (length old.words) old.vars ≡ true
-    → length exit.vars ≡ length old.vars
-    → EitherWay old.words new.words (length old.vars) exit.live exit.vars old.live old.vars new.live new.vars)
+    → length exit.vars ≡ length old.vars → AgreeBut numbers exit.vars old.vars
+    → EitherWay old.words mid.words (length old.vars) exit.live exit.vars old.live old.vars mid.live mid.vars)
+    → new ≡ record mid { written = new.written }
+    → (AgreeBut numbers exit.base mid.vars → Gathers exit.since exit.base mid new)
     → Closes old new exit
-closes-by d old new exit fits popped same ways =
-    let names = exit-names (length old.words) d.vars exit (exit-last (length old.words) d.vars new.exits exit
+closes-by d old mid new exit numbers fits popped same among kept ways after gathers =
+    let found = ap (λ es. slice_get es (length mid.exits)) popped ∙ last-found mid.exits exit in
+    let here = exit-since old.written old.vars old.exits (length mid.exits) exit fits.since found in
+    let there = fits.written (length mid.exits) exit found in
+    let names = exit-names (length old.words) d.vars exit (exit-last (length old.words) d.vars mid.exits exit
     (ap (list_all (fits_exit (length old.words) d.vars)) (sym popped) ∙ fits.exits)) in
-    record {
-      same = same;
+    subst (λ (b : Builder). Closes old b exit) (sym after) (record {
+      same = ap (λ (b : Builder). record b { written = new.written }) same;
+      gathers = gathered-by old mid new exit.since exit.base exit.vars exit.written numbers among there here
+          kept (ap (λ (b : Builder). b.written) same) after gathers;
       exits = popped;
-      ways = ways fits.words fits.one names.0 names.1 fits.live fits.vars (names.2 ∙ sym fits.var_count);
-    }
+      ways = ways fits.words fits.one names.0 names.1 fits.live fits.vars (names.2 ∙ sym fits.var_count)
+          (ways-agree old mid new exit.since exit.base exit.vars exit.written numbers among there here);
+    })
 
 exit-at : (count vars : ℕ) (es : List Exit) (i : ℕ) (x : Exit) → list_all (fits_exit count vars) es ≡ true
     → slice_get es i ≡ Some x → fits_exit count vars x ≡ true
@@ -253,35 +286,53 @@ exit-at count vars (y ∷ es) (suc i) x h found =
     exit-at count vars es i x (and_parts (fits_exit count vars y) (list_all (fits_exit count vars) es) h).1
     found
 
-pub leaving-by : (d : Declared) (old new : Builder) (label : ℕ) (exit : Exit) (live : ℕ) (vars : List ℕ)
-    → Fits d old → slice_get old.exits (exit_of (labels_of old.exits) label) ≡ Some exit
+pub leaving-by : (d : Declared) (old new : Builder) (label : ℕ) (exit : Exit) (live : ℕ)
+    (copied vars numbers written : List ℕ) → Fits d old
+    → slice_get old.exits (exit_of (labels_of old.exits) label) ≡ Some exit
     → new ≡ record old {
       words = new.words;
       live = 0;
-      exits = slice_set old.exits (exit_of (labels_of old.exits) label) (record {
-        label = exit.label;
-        live
-            = live;
+      exits = slice_set old.exits (exit_of (labels_of old.exits) label) (record exit {
+        live = live;
         vars = vars;
+        written = written;
       });
     }
+    → copied ≡ exit.vars
+    → ((n : ℕ) → is_among n numbers ≡ is_among n (drop exit.since old.written ++ exit.written))
+    → (AgreeBut numbers old.vars copied → AgreeBut numbers copied vars)
     → (are_words old.words ≡ true → slice_get old.words 1 ≡ Some (Const (pos 1)) → old.live < length old.words
     → are_names (length old.words) old.vars ≡ true → exit.live < length old.words →
-    are_names (length old.words) exit.vars ≡ true
-    → length old.vars ≡ length exit.vars
-    → EitherWay old.words new.words (length exit.vars) old.live old.vars exit.live exit.vars live vars)
+    are_names (length old.words) copied ≡ true
+    → length old.vars ≡ length copied → AgreeBut numbers old.vars copied
+    → EitherWay old.words new.words (length copied) old.live old.vars exit.live copied live vars)
+    → (AgreeBut numbers exit.base vars → AgreeBut written exit.base vars)
     → Leaving old new label
-leaving-by d old new label exit live vars fits found same ways =
+leaving-by d old new label exit live copied vars numbers written fits found same copy among kept ways
+    changed =
+    let at = exit_of (labels_of old.exits) label in
+    let here = exit-since old.written old.vars old.exits at exit fits.since found in
+    let there = fits.written at exit found in
+    let both : AgreeBut numbers exit.vars old.vars =
+    ways-agree old old old exit.since exit.base exit.vars exit.written numbers among there here in
+    let agrees : AgreeBut numbers old.vars copied = λ k h. sym (both k h)
+    ∙ ap (λ vs. get_or vs k 0) (sym copy) in
     let names = exit-names (length old.words) d.vars exit
-    (exit-at (length old.words) d.vars old.exits (exit_of (labels_of old.exits) label) exit fits.exits
-    found) in
+    (exit-at (length old.words) d.vars old.exits at exit fits.exits found) in
     record {
       exit = exit;
       found = found;
       new_live = live;
       new_vars = vars;
+      new_written = written;
       same = same;
-      ways = ways fits.words fits.one fits.live fits.vars names.0 names.1 (fits.var_count ∙ sym names.2);
+      kept = changed (λ k h.
+          there k (among-parts k (drop exit.since old.written) exit.written (sym (among k) ∙ h)).1
+          ∙ ap (λ vs. get_or vs k 0) (sym copy) ∙ kept agrees k h);
+      ways = subst (λ vs. EitherWay old.words new.words (length vs) old.live old.vars exit.live vs live
+          vars) copy (ways fits.words fits.one fits.live fits.vars names.0
+          (ap (are_names (length old.words)) copy ∙ names.1)
+          (fits.var_count ∙ sym names.2 ∙ ap length (sym copy)) agrees);
     }
 
 -- REQUIREMENTS
@@ -320,7 +371,12 @@ module _ (d : Declared) (old : Builder) (condition w : ℕ) (ws : List WordOp) (
     pub demands-met : ((f : Assignment) → is_nonzero (word_in ws w f) ≡ true) →
         Demands d old with_words (word_in old.words condition)
     demands-met always = record {
-      extends = record { more = e.more; words = e.grown; labels = refl };
+      extends = record {
+        more = e.more;
+        words = e.grown;
+        labels = refl;
+        writes = writes-none old with_words refl refl refl;
+      };
       same = refl;
       fits = fits-here;
       good = λ f. is_nonzero (word_in ws w f);
@@ -335,7 +391,12 @@ module _ (d : Declared) (old : Builder) (condition w : ℕ) (ws : List WordOp) (
     pub demands-more : Demands d old (record old { words = ws; require = old.require ++ w ∷ [] }) (word_in
         old.words condition)
     demands-more = record {
-      extends = record { more = e.more; words = e.grown; labels = refl };
+      extends = record {
+        more = e.more;
+        words = e.grown;
+        labels = refl;
+        writes = writes-none old (record old { words = ws; require = old.require ++ w ∷ [] }) refl refl refl;
+      };
       same = refl;
       fits = fits-require d with_words (old.require ++ w ∷ []) fits-here
           (list_all-append (is_name (length ws)) old.require (w ∷ [])
@@ -358,7 +419,7 @@ pub leaving-some : (d : Declared) (b : Builder) (label : ℕ) → Fits d b
 leaving-some d b label fits none =
     let long : length (labels_of b.exits) ≡ length b.exits = length-map b.exits (λ (e : Exit). e.label) in
     let within = exit-within (labels_of b.exits) label (omega (arith, long, fits.some_exit)) in
-    let e : Exit = record { label = 0; live = 0; vars = [] } in
+    let e : Exit = record { label = 0; since = 0; base = []; live = 0; vars = []; written = [] } in
     let found = slice_get-get_or b.exits (exit_of (labels_of b.exits) label) e (omega (
       arith,
       within,

@@ -1,5 +1,5 @@
 -- An execution that may be relaxed, from the calls that make its words.
-use Rattle.std.proofs.Common.{append-nil, [], ◌≡◌, ℕ, ◌<◌, ◌≤◌, true, List, ◌++◌, length, ◌∙◌, ap, subst, arith, sym, length-append, append_assoc}
+use Rattle.std.proofs.Common.{append-nil, [], ◌≡◌, ℕ, ◌<◌, ◌≤◌, true, List, ◌++◌, length, drop, ◌∙◌, ap, subst, arith, sym, length-append, append_assoc}
 use Rattle.ba_code.specs.Facts.{Declared}
 use Rattle.ba_code.specs.Meaning.{choice_where}
 use Rattle.ba_code.specs.declared.nodes.Take.{Take}
@@ -9,6 +9,7 @@ use Rattle.ba_guards.proofs.Going.{means-as, traced_of}
 use Rattle.ba_guards.proofs.Growing.{fits-grown, same-grown}
 use Rattle.ba_guards.proofs.Picks.{pick-means, place-fits}
 use Rattle.ba_guards.proofs.Walks.{fork-sides, sides-arm}
+use Rattle.ba_guards.specs.Written.{AgreeBut}
 use Rattle.ba_guards.specs.Making.{AreSides, Fits, Joins, Means, Offered, Opens, Part, Places, Switches, are_right, fork_at, holds_in, picked, sides_at, values_in}
 use Rattle.ba_guards.specs.declared.builder.Builder.{Builder}
 use Rattle.ba_guards.specs.declared.builder.Fork.{Fork}
@@ -27,7 +28,7 @@ pub record Over (old new : Builder) : Type 0 where
 
 pub other-over : (d : Declared) (which : ℕ) (b0 b1 b2 b3 : Builder) (p : Part) → Opens b0 b1 which →
     Means d p b1 b2
-    → Switches b0.live b0.vars b2 b3 which → Over b0 b3
+    → Switches (length b0.written) b0.live b0.vars b2 b3 which → Over b0 b3
 other-over d which b0 b1 b2 b3 p o m sw = record {
   more = (o.live.more ++ m.extends.more) ++ sw.live.more;
   grown = sw.live.grown
@@ -41,20 +42,22 @@ pub pick-arm : (d : Declared) (bp b1 b2 b3 b4 b5 b6 : Builder) (place : Place) (
     (keep : ℕ) (values : List ℕ) (written : Relaxes → TracedExecution) (fork : Fork) (sides : Sides)
     → Fits d bp → Offered d take bp.words ws keep values →
     Places (record bp { words = ws }) b1 place keep values
-    → fork ≡ fork_at keep b2.live b1.live b1.vars
+    → fork ≡ fork_at keep (length b1.written) b2.live b1.live b1.vars
     → ((d : Declared) → Fits d b1 → keep < length b1.words → Opens b1 b2 keep)
     → (Fits d b2 → Means d (λ f. written) b2 b3)
-    → sides ≡ sides_at fork b4.live b3.live b3.vars
+    → sides ≡ sides_at fork b4.live b3.live b3.vars b3.written
     → ((d : Declared) → Fits d b3 → fork.which < length b3.words → fork.before.live < length b3.words
-    → Switches fork.before.live fork.before.vars b3 b4 fork.which)
+    → Switches fork.since fork.before.live fork.before.vars b3 b4 fork.which)
     → (Fits d b4 → AreSides b4.words sides → b4.live ≡ sides.second →
     are_names (length b4.words) values ≡ true
     → ((f : Assignment) → are_right d take (values_in b4.words values f) ≡ true)
     → Means d (λ f r. picked d take (values_in b4.words values f)) b4 b5)
     → ((d : Declared) → Fits d b5 → sides.after.live < length b5.words →
     are_names (length b5.words) sides.after.vars ≡ true
-    → length sides.after.vars ≡ length b5.vars → AreSides b5.words sides →
-    Joins sides.after.live sides.after.vars b5 b6)
+    → length sides.after.vars ≡ length b5.vars → AreSides b5.words sides
+    → AgreeBut sides.written sides.before sides.after.vars
+    → AgreeBut (drop sides.since b5.written) sides.before b5.vars →
+    Joins sides.since sides.before sides.after.live sides.after.vars b5 b6)
     → Means d (λ f r s. then_do (untraced (choice_where (is_relaxed r place)) (at_place place s))
     (traced_picked d.arrays take (written r))) bp b6
 pick-arm d bp b1 b2 b3 b4 b5 b6 place take ws keep values written fork sides fits offer o forks opens kept
@@ -72,11 +75,13 @@ pick-arm d bp b1 b2 b3 b4 b5 b6 place take ws keep values written fork sides fit
     let le2 : length b2.words ≤ length b3.words =
     omega (arith, ap length m.extends.words, length-append b2.words m.extends.more) in
     let switched = subst (λ (k : Fork). (d : Declared) → Fits d b3 → k.which < length b3.words
-    → k.before.live < length b3.words → Switches k.before.live k.before.vars b3 b4 k.which) forks switches in
+    → k.before.live < length b3.words → Switches k.since k.before.live k.before.vars b3 b4 k.which) forks
+    switches in
     let sw = switched d m.fits (omega (arith, name1, le1, le2)) (omega (arith, fits1.live, le1, le2)) in
     let over = other-over d keep b1 b2 b3 b4 (λ f. written) opened m sw in
-    let at_sides : sides ≡ sides_at (fork_at keep b2.live b1.live b1.vars) b4.live b3.live b3.vars =
-    splits ∙ ap (λ k. sides_at k b4.live b3.live b3.vars) forks in
+    let at_sides : sides
+    ≡ sides_at (fork_at keep (length b1.written) b2.live b1.live b1.vars) b4.live b3.live b3.vars b3.written =
+    splits ∙ ap (λ k. sides_at k b4.live b3.live b3.vars b3.written) forks in
     let grown4 : b4.words ≡ ws ++ over.more = over.grown ∙ ap (λ ws. ws ++ over.more) words1 in
     let le : length ws ≤ length b4.words = omega (arith, ap length grown4, length-append ws over.more) in
     let same : (f : Assignment) → values_in b4.words values f ≡ values_in ws values f =
@@ -90,7 +95,7 @@ pick-arm d bp b1 b2 b3 b4 b5 b6 place take ws keep values written fork sides fit
     (takes fits4
     (subst (AreSides b4.words) (sym at_sides) (fork-sides d keep b1 b2 b3 b4 b4.words [] (λ f. written)
     b3.live
-    b3.vars fits1 name1 opened fits2 m sw fits4 (sym (append-nil b4.words))))
+    b3.vars fits1 name1 opened fits2 m sw fits4 (sym (append-nil b4.words)) (length b1.written) b3.written))
     (sym (ap (λ (s : Sides). s.second) splits))
     (names-more (length ws) (length b4.words) values le offer.names)
     (λ f. ap (are_right d take) (same f) ∙ offer.right f))

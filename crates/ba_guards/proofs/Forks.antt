@@ -1,15 +1,17 @@
 -- Two sides of which a run takes one.
-use Rattle.std.proofs.Common.{◌≡◌, ℕ, ◌<◌, ◌≤◌, ℤ, pos, Bool, true, false, not, ◌&&◌, ◌||◌, cond, Some, List, [], ◌++◌, map, length, refl, sym, ◌∙◌, ap, subst, arith, append_assoc, append-nil}
+use Rattle.std.proofs.Common.{◌≡◌, ℕ, ◌<◌, ◌≤◌, ℤ, pos, Bool, true, false, not, ◌&&◌, ◌||◌, cond, Some, List, [], ◌++◌, map, length, get_or, drop, take, refl, sym, ◌∙◌, ap, subst, arith, append_assoc, append-nil}
 use Rattle.std.proofs.lemmas.Bool.{and_parts, not-true}
-use Rattle.std.proofs.lemmas.List.{length-append}
+use Rattle.std.proofs.lemmas.List.{drop_at, length-append, take_at}
 use Rattle.ba_choices.specs.declared.Choice.{Choice}
 use Rattle.ba_code.specs.Facts.{Declared}
 use Rattle.ba_code_laws.specs.Tracing.{Relaxes}
 use Rattle.ba_code_laws.specs.Visits.{Visit, are_kept, chosen}
 use Rattle.ba_guards.proofs.Going.{is_running, left-resting, live-running, quiet}
 use Rattle.ba_guards.proofs.Growing.{arrays-same, fits-grown, left-kept, met-kept, same-grown, variables-same, visits-kept}
+use Rattle.ba_guards.proofs.Writing.{gathers-writes, since-writes, writes-none}
+use Rattle.ba_guards.specs.Written.{AgreeBut, AreSince, frames_of, is_among}
 use Rattle.ba_guards.specs.Continuing.{continued, ended, labels_of}
-use Rattle.ba_guards.specs.Making.{Fits, Found, Joins, Means, Opens, Part, Switches, holds_in, word_in}
+use Rattle.ba_guards.specs.Making.{Extends, Fits, Found, Joins, Means, Opens, Part, Switches, Writes, holds_in, word_in}
 use Rattle.ba_guards.specs.Reading.{Snapshot, Status, arrays_at, is_live, left_from, met, places_at, snapshot, variables_at, visits}
 use Rattle.ba_guards.specs.Reading.Status.{idle, running}
 use Rattle.ba_guards.specs.declared.builder.Builder.{Builder}
@@ -106,13 +108,49 @@ ways-stand on false false m m1 m2 rest a l is first second = ap (λ on. snap on 
 
 -- FORKS
 
+-- the second side begins with what was written before the branch
+pub second-written : (which : ℕ) (b0 b1 b2 b3 : Builder) → Opens b0 b1 which → Extends b1 b2
+    → Switches (length b0.written) b0.live b0.vars b2 b3 which → b3.written ≡ b0.written
+second-written which b0 b1 b2 b3 o e sw =
+    ap (λ (b : Builder). b.written) sw.same
+    ∙ ap (take (length b0.written)) (e.writes.written
+    ∙ ap (λ (b : Builder). b.written ++ e.writes.set) o.same)
+    ∙ take_at b0.written e.writes.set (length b0.written) refl
+
+-- what the first side writes
+pub first-agrees : (which : ℕ) (b0 b1 b2 : Builder) → Opens b0 b1 which → Extends b1 b2
+    → AgreeBut (drop (length b0.written) b2.written) b0.vars b2.vars
+first-agrees which b0 b1 b2 o e k h =
+    ap (λ (b : Builder). get_or b.vars k 0) (sym o.same)
+    ∙ e.writes.kept k (sym (ap (is_among k) (ap (drop (length b0.written)) (e.writes.written
+    ∙ ap (λ (b : Builder). b.written ++ e.writes.set) o.same)
+    ∙ drop_at b0.written e.writes.set (length b0.written) refl)) ∙ h)
+
+-- and what the second
+pub second-agrees : (which : ℕ) (b0 b1 b2 b3 b4 : Builder) → Opens b0 b1 which → Extends b1 b2
+    → Switches (length b0.written) b0.live b0.vars b2 b3 which → Extends b3 b4
+    → AgreeBut (drop (length b0.written) b4.written) b0.vars b4.vars
+second-agrees which b0 b1 b2 b3 b4 o e1 sw e2 k h =
+    ap (λ (b : Builder). get_or b.vars k 0) (sym sw.same)
+    ∙ e2.writes.kept k (sym (ap (is_among k) (ap (drop (length b0.written)) (e2.writes.written
+    ∙ ap (λ ns. ns ++ e2.writes.set) (second-written which b0 b1 b2 b3 o e1 sw))
+    ∙ drop_at b0.written e2.writes.set (length b0.written) refl)) ∙ h)
+
+-- the second side begins where the branch did
+pub switch-writes : (which : ℕ) (b0 b1 b2 b3 : Builder) → Opens b0 b1 which → Extends b1 b2
+    → Switches (length b0.written) b0.live b0.vars b2 b3 which → Writes b0 b3
+switch-writes which b0 b1 b2 b3 o e sw =
+    writes-none b0 b3 (second-written which b0 b1 b2 b3 o e sw) (ap (λ (b : Builder). b.vars) sw.same)
+    (ap (λ (b : Builder). frames_of b.exits) sw.same ∙ e.writes.frames
+    ∙ ap (λ (b : Builder). frames_of b.exits) o.same)
+
 abbrev pub forked : (Assignment → Bool) → Part → Part → Part
 forked c p q f r s = cond (c f) (p f r s) (q f r s)
 
 module _ (d : Declared) (which : ℕ) (b0 b1 b2 b3 b4 b5 : Builder) (p q : Part) (fits : Fits d b0)
     (name : which < length b0.words) (o : Opens b0 b1 which) (fits1 : Fits d b1) (mp : Means d p b1 b2)
-    (sw : Switches b0.live b0.vars b2 b3 which) (fits3 : Fits d b3) (mq : Means d q b3 b4) (j : Joins
-    b2.live b2.vars b4 b5) where
+    (sw : Switches (length b0.written) b0.live b0.vars b2 b3 which) (fits3 : Fits d b3)
+    (mq : Means d q b3 b4) (j : Joins (length b0.written) b0.vars b2.live b2.vars b4 b5) where
   abbrev c : Assignment → Bool
   c f = holds_in b0.words which f
 
@@ -171,8 +209,8 @@ module _ (d : Declared) (which : ℕ) (b0 b1 b2 b3 b4 b5 : Builder) (p q : Part)
       ∙ snap-same (is_live (values_of f b3.words) (record b2 {
         words = b3.words;
         live = b3.live;
-        vars =
-            b0.vars;
+        vars = b0.vars;
+        written = take (length b0.written) b2.written;
       }))
       (not (c f) && on_at f b0)
       (variables_at (values_of f b3.words) b0.vars) (vars_at f b0) (left_from (values_of f b3.words) 0
@@ -445,6 +483,19 @@ module _ (d : Declared) (which : ℕ) (b0 b1 b2 b3 b4 b5 : Builder) (p q : Part)
     at false e2 false e4 =
         let clash : true ≡ false = sym on ∙ join-on f ∙ ap (λ b. b || on_at f b4) e2 ∙ e4 in absurd (cc)
 
+  fork-writes : Writes b0 b5
+  fork-writes = gathers-writes b0 b4 b5 (length b0.written) b0.vars mq.extends.writes.set
+      (mq.extends.writes.written
+      ∙ ap (λ ns. ns ++ mq.extends.writes.set) (second-written which b0 b1 b2 b3 o mp.extends sw))
+      refl refl
+      (ap (λ (b : Builder). frames_of b.exits) j.same ∙ mq.extends.writes.frames
+      ∙ (switch-writes which b0 b1 b2 b3 o mp.extends sw).frames)
+      j.gathers
+
+  join-since : AreSince b5.written b5.vars (frames_of b4.exits)
+  join-since = subst (λ fs. AreSince b5.written b5.vars fs) (ap (λ (b : Builder). frames_of b.exits) j.same)
+      (since-writes b0 b5 fork-writes fits.since)
+
   pub join-fits : Fits d b5
   join-fits =
       let g = fits-grown d b4 b5.words j.ways.more mq.fits grown5 j.ways.fit in
@@ -466,6 +517,8 @@ module _ (d : Declared) (which : ℕ) (b0 b1 b2 b3 b4 b5 : Builder) (p q : Part)
         apart = λ f on. ap (λ (b : Builder). left_from (values_of f b5.words) 0 b.exits) (sym j.same)
             ∙ join-apart f on;
         single = g.single;
+        since = join-since;
+        written = mq.fits.written;
       })
 
   pub fork-means : Means d (forked c p q) b0 b5
@@ -477,6 +530,7 @@ module _ (d : Declared) (which : ℕ) (b0 b1 b2 b3 b4 b5 : Builder) (p q : Part)
           ∙ ap (λ ws. ws ++ ((sw.live.more ++ mq.extends.more) ++ j.ways.more)) grown2
           ∙ append_assoc b0.words more2 ((sw.live.more ++ mq.extends.more) ++ j.ways.more);
       labels = labels5;
+      writes = fork-writes;
     };
     fits = join-fits;
     log = both_logs;
@@ -536,11 +590,13 @@ open-fits d which b0 b1 fits o =
           (sym (ap is_nonzero (o.live.has f) ∙ either-nonzero (holds_in b0.words which f) (word_in b0.words
           b0.live f)) ∙ on)).1;
       single = g.single;
+      since = fits.since;
+      written = fits.written;
     })
 
 pub switch-fits : (d : Declared) (which : ℕ) (b0 b1 b2 b3 : Builder) (p : Part) → Fits d b0 →
     which < length b0.words
-    → Opens b0 b1 which → Means d p b1 b2 → Switches b0.live b0.vars b2 b3 which → Fits d b3
+    → Opens b0 b1 which → Means d p b1 b2 → Switches (length b0.written) b0.live b0.vars b2 b3 which → Fits d b3
 switch-fits d which b0 b1 b2 b3 p fits name o mp sw =
     let more2 = o.live.more ++ mp.extends.more in
     let grown2 : b2.words ≡ b0.words ++ more2 = mp.extends.words ∙ ap (λ ws. ws ++ mp.extends.more)
@@ -576,9 +632,20 @@ switch-fits d which b0 b1 b2 b3 p fits name o mp sw =
       typed = g.typed;
       apart = λ f on. switch-apart f more2 grown2 on;
       single = g.single;
+      since = switch-since;
+      written = mp.fits.written;
     }) where
+      switch-since : AreSince (take (length b0.written) b2.written) b0.vars (frames_of b2.exits)
+      switch-since = subst (λ (b : Builder). AreSince b.written b.vars (frames_of b.exits)) sw.same
+          (since-writes b0 b3 (switch-writes which b0 b1 b2 b3 o mp.extends sw) fits.since)
+
       switch-apart : (f : Assignment) (more2 : List WordOp) → b2.words ≡ b0.words ++ more2
-          → is_live (values_of f b3.words) (record b2 { words = b3.words; live = b3.live; vars = b0.vars })
+          → is_live (values_of f b3.words) (record b2 {
+            words = b3.words;
+            live = b3.live;
+            vars = b0.vars;
+            written = take (length b0.written) b2.written;
+          })
           ≡ true
           → left_from (values_of f b3.words) 0 b2.exits ≡ idle
       switch-apart f more2 grown2 on =

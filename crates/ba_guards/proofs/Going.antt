@@ -7,6 +7,7 @@ use Rattle.ba_code.specs.Facts.{Declared}
 use Rattle.ba_code_laws.specs.Tracing.{Relaxes, Traced, TracedExecution, everywhere}
 use Rattle.ba_code_laws.specs.Visits.{are_kept, chosen}
 use Rattle.ba_guards.proofs.Growing.{met-kept, same-grown, snapshot-agree, snapshot-kept, visits-kept}
+use Rattle.ba_guards.proofs.Writing.{writes-none, writes-then}
 use Rattle.ba_guards.specs.Continuing.{Further, after_end, continued, continued_from, ended, labels_of, then_go, traced_from}
 use Rattle.ba_guards.specs.Making.{Extends, Fits, Found, Means, Part}
 use Rattle.ba_guards.specs.Reading.{Snapshot, Status, status_at, is_live, left_from, met, snapshot, variables_at, visits}
@@ -97,6 +98,15 @@ extends-then old mid new first second = record {
   words = second.words ∙ ap (λ ws. ws ++ second.more) first.words
       ∙ append_assoc old.words first.more second.more;
   labels = second.labels ∙ first.labels;
+  writes = writes-then old mid new first.writes second.writes;
+}
+
+pub extends-none : (b : Builder) → Extends b b
+extends-none b = record {
+  more = [];
+  words = sym (append-nil b.words);
+  labels = refl;
+  writes = writes-none b b refl refl refl;
 }
 
 -- both parts do the same where the words before them are the same
@@ -299,6 +309,12 @@ means-before d part old new ws more fits grown fit m =
         words = m.extends.words ∙ ap (λ ws. ws ++ m.extends.more) grown ∙ append_assoc old.words more
             m.extends.more;
         labels = m.extends.labels;
+        writes = record {
+          set = m.extends.writes.set;
+          written = m.extends.writes.written;
+          kept = m.extends.writes.kept;
+          frames = m.extends.writes.frames;
+        };
       };
       fits = m.fits;
       log = m.log;

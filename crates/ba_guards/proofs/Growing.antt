@@ -250,6 +250,8 @@ fits-grown d b ws more fits grown fit =
           ∙ fits.apart f (sym (live-kept d b fits (values_of f ws) f same) ∙ on);
       single = λ f. single-same (length b.words) (values_of f ws) (values_of f b.words)
           (same-grown f b.words ws more grown) d.vars b.exits fits.exits ∙ fits.single f;
+      since = fits.since;
+      written = fits.written;
     }
 
 -- an array has the length that is declared

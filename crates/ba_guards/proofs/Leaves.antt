@@ -1,5 +1,5 @@
 -- Nodes without parts: a variable, an array, a requirement.
-use Rattle.std.proofs.Common.{◌≡◌, ℕ, zero, suc, ◌<◌, ◌==◌, ℤ, Bool, true, false, cond, Some, List, [], ◌∷◌, length, get_or, slice_get, refl, sym, ◌∙◌, ap, arith, append-nil, inl, inr, ◌⊎◌}
+use Rattle.std.proofs.Common.{◌≡◌, ℕ, zero, suc, ◌<◌, ◌==◌, ℤ, Bool, true, false, cond, Some, List, [], ◌∷◌, length, get_or, slice_get, refl, sym, ◌∙◌, ap, arith, append-nil, inl, inr, ◌⊎◌, ◌++◌}
 use Rattle.std.proofs.lemmas.Bool.{and_from, and_parts, cases_eq, eq-eqb, ne_eqb}
 use Rattle.std.proofs.lemmas.List.{get_or-set_same, get_or-set_other, length-set}
 use Rattle.std.specs.Prelude.{slice_set}
@@ -9,11 +9,13 @@ use Rattle.ba_code.specs.Facts.{Declared}
 use Rattle.ba_code.specs.Meaning.{info_at}
 use Rattle.ba_code.specs.State.{CodeState, set_array, set_variable, with_at}
 use Rattle.ba_code_laws.specs.Tracing.{TracedExecution, untraced}
-use Rattle.ba_guards.proofs.Going.{is_running, means-steady, resting, traced_of, Steady}
+use Rattle.ba_guards.proofs.Going.{Steady, is_running, means-steady, resting, traced_of}
 use Rattle.ba_guards.proofs.Growing.{extensional}
 use Rattle.ba_guards.proofs.Going.{left-resting}
+use Rattle.ba_guards.proofs.Writing.{agree-set, since-writes, writes-none}
+use Rattle.ba_guards.specs.Written.{AreSince, frames_of}
 use Rattle.ba_guards.specs.Continuing.{after_end, continued, ended, labels_of}
-use Rattle.ba_guards.specs.Making.{Demands, checked_by, Fits, Means, checked, elements_in, word_in}
+use Rattle.ba_guards.specs.Making.{Demands, checked_by, Fits, Means, Writes, checked, elements_in, word_in}
 use Rattle.ba_guards.specs.Reading.{Status, arrays_at, elements_where, is_live, left_from, met, places_at, variables_at}
 use Rattle.ba_guards.specs.Reading.Status.{running}
 use Rattle.ba_guards.specs.declared.builder.Builder.{Builder}
@@ -110,10 +112,11 @@ leaf-runs labels part false m m' rest arrays arrays' places cs off runs same =
 
 -- FACTS of the builder with one part changed
 
-pub fits-vars : (d : Declared) (b : Builder) (vars : List ℕ) → Fits d b →
+pub fits-vars : (d : Declared) (b : Builder) (vars written : List ℕ) → Fits d b →
     are_names (length b.words) vars ≡ true
-    → length vars ≡ d.vars → Fits d (record b { vars = vars })
-fits-vars d b vars fits names count = record {
+    → length vars ≡ d.vars → AreSince written vars (frames_of b.exits)
+    → Fits d (record b { vars = vars; written = written })
+fits-vars d b vars written fits names count since = record {
   words = fits.words;
   zero = fits.zero;
   one = fits.one;
@@ -130,6 +133,8 @@ fits-vars d b vars fits names count = record {
   typed = fits.typed;
   apart = fits.apart;
   single = fits.single;
+  since = since;
+  written = fits.written;
 }
 
 pub fits-arrays : (d : Declared) (b : Builder) (arrays : List ℕ) → Fits d b →
@@ -155,6 +160,8 @@ fits-arrays d b arrays fits names count lengths = record {
   typed = fits.typed;
   apart = fits.apart;
   single = fits.single;
+  since = fits.since;
+  written = fits.written;
 }
 
 pub fits-require : (d : Declared) (b : Builder) (require : List ℕ) → Fits d b
@@ -176,6 +183,8 @@ fits-require d b require fits names = record {
   typed = fits.typed;
   apart = fits.apart;
   single = fits.single;
+  since = fits.since;
+  written = fits.written;
 }
 
 -- A VARIABLE gets a word
@@ -185,13 +194,28 @@ module _ (d : Declared) (b : Builder) (fits : Fits d b) (to : ℕ) (value : Assi
     (name : w < length b.words)
     (same : (f : Assignment) (cs : List Choice) → value f (traced_of f b cs).code ≡ word_in b.words w f) where
   abbrev pub assigned : Builder
-  assigned = record b { vars = slice_set b.vars to w }
+  assigned = record b { vars = slice_set b.vars to w; written = b.written ++ to ∷ [] }
+
+  assigned-writes : Writes b assigned
+  assigned-writes = record {
+    set = to ∷ [];
+    written = refl;
+    kept = agree-set b.vars to w;
+    frames = refl;
+  }
 
   assigned-steady : Steady d (λ f r. untraced (λ c. set_variable to (value f c) c)) b assigned (λ f. true)
   assigned-steady = record {
-    extends = record { more = []; words = sym (append-nil b.words); labels = refl };
-    fits = fits-vars d b (slice_set b.vars to w) fits (names-set (length b.words) b.vars to w name fits.vars)
-        (length-set b.vars to w ∙ fits.var_count);
+    extends = record {
+      more = [];
+      words = sym (append-nil b.words);
+      labels = refl;
+      writes = assigned-writes;
+    };
+    fits = fits-vars d b (slice_set b.vars to w) (b.written ++ to ∷ []) fits
+        (names-set (length b.words) b.vars to w name fits.vars)
+        (length-set b.vars to w ∙ fits.var_count)
+        (since-writes b assigned assigned-writes fits.since);
     logs = λ f. refl;
     keeps = λ f. sym (and-true (met f b));
     runs = λ r f cs.
@@ -243,7 +267,12 @@ module _ (d : Declared) (b : Builder) (fits : Fits d b) (array : ℕ) (elements 
 
   stored-steady : Steady d (λ f r. untraced (λ c. set_array array (elements f c) c)) b stored (λ f. true)
   stored-steady = record {
-    extends = record { more = []; words = sym (append-nil b.words); labels = refl };
+    extends = record {
+      more = [];
+      words = sym (append-nil b.words);
+      labels = refl;
+      writes = writes-none b stored refl refl refl;
+    };
     fits = fits-arrays d b (slice_set b.arrays array w) fits (names-set (length b.words) b.arrays array w
         name fits.arrays)
         (length-set b.arrays array w ∙ fits.array_count) (λ n. stored-length n (cases_eq n array));

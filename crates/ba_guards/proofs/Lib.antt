@@ -1,5 +1,6 @@
 pub mod Emitting
 pub mod Growing
+pub mod Writing
 pub mod Sharing
 pub mod Going
 pub mod Leaves
@@ -21,6 +22,7 @@ pub mod Filling
 pub mod Arrays
 pub mod Folding
 pub mod Chunks
+pub mod Merging
 pub mod Building
 pub mod Inputs
 pub mod Beginning

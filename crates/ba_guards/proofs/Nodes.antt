@@ -1,5 +1,5 @@
 -- Nodes without parts, each from the words that are made for it.
-use Rattle.std.proofs.Common.{◌≡◌, ℕ, ◌<◌, ℤ, Bool, true, false, List, ◌++◌, length, refl, sym, ◌∙◌, ap, subst, arith, append_assoc}
+use Rattle.std.proofs.Common.{◌≡◌, ℕ, ◌<◌, ℤ, Bool, true, false, List, ◌++◌, length, refl, sym, ◌∙◌, ap, subst, arith, append_assoc, ◌∷◌, []}
 use Rattle.std.specs.Prelude.{slice_set}
 use Rattle.ba_choices.specs.declared.Choice.{Choice}
 use Rattle.ba_code.specs.Facts.{Declared}
@@ -62,7 +62,8 @@ module _ (d : Declared) (b : Builder) (fits : Fits d b) (ws more : List WordOp) 
 
 pub assign-node : (d : Declared) (b new : Builder) → Fits d b → (to : ℕ) → to < d.vars →
     (ws : List WordOp) (w : ℕ)
-    (h : Assignment → ℤ) → Emits b.words ws w h → new ≡ record b { words = ws; vars = slice_set b.vars to w }
+    (h : Assignment → ℤ) → Emits b.words ws w h
+    → new ≡ record b { words = ws; vars = slice_set b.vars to w; written = b.written ++ to ∷ [] }
     → Means d (λ f r. untraced (λ c. set_variable to (h f) c)) b new
 assign-node d b new fits to there ws w h e is =
     let mid : Builder = record b { words = ws } in
@@ -70,7 +71,8 @@ assign-node d b new fits to there ws w h e is =
     (λ f cs. sym (e.has f)) in
     subst (Means d (λ f r. untraced (λ c. set_variable to (h f) c)) b) (sym is)
     (means-before d (λ f r. untraced (λ c. set_variable to (h f) c)) b
-    (record mid { vars = slice_set b.vars to w }) ws e.more fits e.grown e.fit m)
+    (record mid { vars = slice_set b.vars to w; written = b.written ++ to ∷ [] }) ws e.more fits e.grown
+    e.fit m)
 
 -- AN ARRAY gets elements
 

@@ -16,6 +16,8 @@ use Rattle.ba_guards.proofs.Forks.{cells_at, forked, list_at, on_at, rest_at, sn
 use Rattle.ba_guards.proofs.Going.{is_running, live-running, quiet, resting}
 use Rattle.ba_guards.proofs.Growing.{array-long, fits-grown, met-kept, same-grown, snapshot-agree, snapshot-kept, visits-kept}
 use Rattle.ba_guards.specs.Continuing.{after_end, continued, ended, labels_of}
+use Rattle.ba_guards.proofs.Writing.{writes-none, writes-then}
+use Rattle.ba_guards.specs.Written.{frames_of}
 use Rattle.ba_guards.specs.Making.{Fits, Found, HasLengths, Means, Offers, Part, Places, holds_in, picked, show_types, values_in}
 use Rattle.ba_guards.specs.Reading.{Snapshot, is_live, met, snapshot, visits}
 use Rattle.ba_guards.specs.declared.builder.Builder.{Builder}
@@ -74,6 +76,8 @@ module _ (d : Declared) (b0 b1 : Builder) (fits : Fits d b0) (place : Place) (ke
         (and_from (is_typed b0.words entry) true typed refl);
     apart = fits.apart;
     single = fits.single;
+    since = fits.since;
+    written = fits.written;
   })
 
   -- where the run stands then
@@ -404,6 +408,9 @@ module _ (d : Declared) (bp b1 b2 : Builder) (fits : Fits d bp) (place : Place) 
       words = m.extends.words ∙ ap (λ ws. ws ++ m.extends.more) (same-words ∙ grown) ∙ append_assoc
           bp.words more m.extends.more;
       labels = m.extends.labels ∙ same-labels;
+      writes = writes-then bp b1 b2 (writes-none bp b1 (ap (λ (b : Builder). b.written) o.same)
+          (ap (λ (b : Builder). b.vars) o.same) (ap (λ (b : Builder). frames_of b.exits) o.same))
+          m.extends.writes;
     };
     fits = m.fits;
     log = log;

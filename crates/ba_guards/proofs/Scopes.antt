@@ -15,8 +15,10 @@ use Rattle.ba_guards.proofs.Exiting.{exit-more, exit-within, idle-off, labels-se
 use Rattle.ba_guards.proofs.Forks.{cells_at, later-cells, later-list, later-met, later-vars, later-visits, later-word, list_at, on_at, rest_at, snap, vars_at, ways-stand}
 use Rattle.ba_guards.proofs.Going.{is_running, left-resting, live-running, means-before, means-steady, resting}
 use Rattle.ba_guards.proofs.Growing.{exits-more, fits-grown, left-same, single-same, same-grown, variables-same}
+use Rattle.ba_guards.proofs.Writing.{ends-same, frames-set, front-found, gathers-writes, since-push, since-writes, written-push, written-set, writes-none}
+use Rattle.ba_guards.specs.Written.{AreSince, frames_of}
 use Rattle.ba_guards.specs.Continuing.{Further, after_end, continued, ended, exit_of, labels_of, status_after, traced_from}
-use Rattle.ba_guards.specs.Making.{are_off, Closes, Fits, Found, Leaving, Means, Part, Scopes, fits_exit, holds_in, is_single}
+use Rattle.ba_guards.specs.Making.{are_off, Closes, Fits, Found, Leaving, Means, Part, Scopes, Writes, fits_exit, holds_in, is_single}
 use Rattle.ba_guards.specs.Reading.{Snapshot, Status, arrays_at, is_live, left_from, met, places_at, snapshot, variables_at, visits}
 use Rattle.ba_guards.specs.Reading.Status.{idle, running, left}
 use Rattle.ba_guards.specs.declared.builder.Builder.{Builder}
@@ -116,7 +118,14 @@ or-nothing (left k m) off = refl
 
 module _ (d : Declared) (label : ℕ) (b0 b1 : Builder) (fits : Fits d b0) (o : Scopes b0 b1 label) where
   abbrev exit : Exit
-  exit = record { label = label; live = 0; vars = b0.vars }
+  exit = record {
+    label = label;
+    since = length b0.written;
+    base = b0.vars;
+    live = 0;
+    vars = b0.vars;
+    written = [];
+  }
 
   scope-rest : (f : Assignment) → left_from (values_of f b0.words) 0 (b0.exits ++ exit ∷ []) ≡ rest_at f b0
   scope-rest f = left-append (values_of f b0.words) 0 b0.exits exit
@@ -131,6 +140,10 @@ module _ (d : Declared) (label : ℕ) (b0 b1 : Builder) (fits : Fits d b0) (o : 
   pub scope-labels : labels_of b1.exits ≡ labels_of b0.exits ++ label ∷ []
   scope-labels = ap (λ (b : Builder). labels_of b.exits) o.same ∙ map-append (λ (e : Exit). e.label)
       b0.exits (exit ∷ [])
+
+  pub scope-frames : frames_of b1.exits ≡ frames_of b0.exits ++ (length b0.written, b0.vars) ∷ []
+  scope-frames = ap (λ (b : Builder). frames_of b.exits) o.same
+      ∙ map-append (λ (e : Exit). (e.since, e.base)) b0.exits (exit ∷ [])
 
   pub scope-fits : Fits d b1
   scope-fits = subst (Fits d) (sym o.same) (record {
@@ -158,6 +171,13 @@ module _ (d : Declared) (label : ℕ) (b0 b1 : Builder) (fits : Fits d b0) (o : 
     typed = fits.typed;
     apart = λ f on. scope-rest f ∙ fits.apart f on;
     single = λ f. single-more (values_of f b0.words) b0.exits exit (fits.single f) (zero-off d b0 f fits);
+    since = subst (λ fs. AreSince b0.written b0.vars fs)
+        (sym (map-append (λ (e : Exit). (e.since, e.base)) b0.exits (exit ∷ [])))
+        (since-push b0.written b0.vars (frames_of b0.exits) (length b0.written, b0.vars) fits.since (record {
+          since = omega arith;
+          agrees = λ k h. refl;
+        }));
+    written = written-push b0.exits exit fits.written (λ k h. refl);
   })
 
 -- and ends
@@ -172,21 +192,29 @@ module _ (d : Declared) (label : ℕ) (b0 b1 b2 b3 : Builder) (e : Exit) (p : Pa
   some_label = omega (arith, fits.some_exit, length-map b0.exits (λ (e : Exit). e.label))
 
   -- the exits that are left are those before
-  last-two : (xs ys : List ℕ) (x y : ℕ) → xs ++ x ∷ [] ≡ ys ++ y ∷ [] → xs ≡ ys
-  last-two [] [] x y is = refl
-  last-two [] (z ∷ ys) x y is = absurd (long ys (ap length is)) where
-    long : (ys : List ℕ) → length (x ∷ []) ≡ length (z ∷ (ys ++ y ∷ [])) → ⊥
-    long ys h = absurd (omega (arith, h, length-append ys (y ∷ [])))
-  last-two (z ∷ xs) [] x y is = absurd (omega (arith, ap length is, length-append xs (x ∷ [])))
-  last-two (z ∷ xs) (w ∷ ys) x y is =
-      let one : z ≡ w = cc in
-      let rest : xs ++ x ∷ [] ≡ ys ++ y ∷ [] = cc in
-      ap (λ z. z ∷ xs) one ∙ ap (λ xs. w ∷ xs) (last-two xs ys x y rest)
-
   close-labels : labels_of b3.exits ≡ labels_of b0.exits
-  close-labels = last-two (labels_of b3.exits) (labels_of b0.exits) e.label label
+  close-labels = (ends-same (labels_of b3.exits) (labels_of b0.exits) e.label label
       (sym (map-append (λ (e : Exit). e.label) b3.exits (e ∷ [])) ∙ ap labels_of (sym q.exits)
-      ∙ m.extends.labels ∙ scope-labels d label b0 b1 fits o)
+      ∙ m.extends.labels ∙ scope-labels d label b0 b1 fits o)).0
+
+  -- where the block began
+  abbrev began : ℕ × List ℕ
+  began = (length b0.written, b0.vars)
+
+  abbrev at_exit : ℕ × List ℕ
+  at_exit = (e.since, e.base)
+
+  both-frames : (frames_of b3.exits ≡ frames_of b0.exits) × (at_exit ≡ began)
+  both-frames = ends-same (frames_of b3.exits) (frames_of b0.exits) at_exit began
+      (sym (map-append (λ (e : Exit). (e.since, e.base)) b3.exits (e ∷ [])) ∙ ap frames_of (sym q.exits)
+      ∙ m.extends.writes.frames ∙ scope-frames d label b0 b1 fits o)
+
+  -- what the block writes
+  close-writes : Writes b0 b3
+  close-writes = gathers-writes b0 b2 b3 e.since e.base m.extends.writes.set
+      (m.extends.writes.written ∙ ap (λ (b : Builder). b.written ++ m.extends.writes.set) o.same)
+      (ap (λ (f : ℕ × List ℕ). f.0) both-frames.1) (ap (λ (f : ℕ × List ℕ). f.1) both-frames.1)
+      both-frames.0 q.gathers
 
   grown3 : b3.words ≡ b2.words ++ q.ways.more
   grown3 = q.ways.grown
@@ -330,6 +358,9 @@ module _ (d : Declared) (label : ℕ) (b0 b1 b2 b3 : Builder) (e : Exit) (p : Pa
         single = λ f. single-same (length b2.words) (values_of f b3.words) (values_of f b2.words)
             (same-grown f b2.words b3.words q.ways.more grown3) d.vars b3.exits exit-fits.0
             ∙ (single2 f).0;
+        since = since-writes b0 b3 close-writes fits.since;
+        written = λ i x found. m.fits.written i x
+            (ap (λ es. slice_get es i) q.exits ∙ front-found b3.exits (e ∷ []) i x found);
       })
 
   closed-ended : (n : ℕ) (b : Bool) (s : Snapshot) (cs : List Choice)
@@ -376,6 +407,7 @@ module _ (d : Declared) (label : ℕ) (b0 b1 b2 b3 : Builder) (e : Exit) (p : Pa
       words = grown3 ∙ ap (λ ws. ws ++ q.ways.more) (m.extends.words ∙ ap (λ ws. ws ++ m.extends.more) words1)
           ∙ append_assoc b0.words m.extends.more q.ways.more;
       labels = close-labels;
+      writes = close-writes;
     };
     fits = close-fits;
     log = m.log;
@@ -422,7 +454,7 @@ module _ (d : Declared) (label : ℕ) (b0 b1 : Builder) (fits : Fits d b0) (l : 
   mid-fits = fits-grown d b0 b1.words l.ways.more fits growth l.ways.fit
 
   abbrev new_exit : Exit
-  new_exit = record { label = l.exit.label; live = l.new_live; vars = l.new_vars }
+  new_exit = record l.exit { live = l.new_live; vars = l.new_vars; written = l.new_written }
 
   within : at < length b0.exits
   within = let h = exit-within (labels_of b0.exits) label
@@ -543,6 +575,9 @@ module _ (d : Declared) (label : ℕ) (b0 b1 : Builder) (fits : Fits d b0) (l : 
         typed = mid-fits.typed;
         apart = λ f on. absurd (let clash : true ≡ false = sym on ∙ zero-live f in cc);
         single = λ f. single-here f (was_on f) refl;
+        since = subst (λ fs. AreSince b0.written b0.vars fs)
+            (sym (frames-set b0.exits at new_exit l.exit l.found refl refl)) fits.since;
+        written = written-set b0.exits at new_exit fits.written l.kept;
       })
 
   leave-runs : (f : Assignment) (cs : List Choice) (b : Bool) → was_on f ≡ b
@@ -576,6 +611,10 @@ module _ (d : Declared) (label : ℕ) (b0 b1 : Builder) (fits : Fits d b0) (l : 
           words = sym (append-nil b1.words);
           labels = ap (λ (b : Builder). labels_of b.exits) l.same ∙ labels-set b0.exits at new_exit l.exit
               l.found refl;
+          writes = writes-none mid b1 (ap (λ (b : Builder). b.written) l.same)
+              (ap (λ (b : Builder). b.vars) l.same)
+              (ap (λ (b : Builder). frames_of b.exits) l.same
+              ∙ frames-set b0.exits at new_exit l.exit l.found refl refl);
         };
         fits = leave-fits;
         logs = λ f. ap (visits f) l.same;

@@ -131,7 +131,11 @@ module _ (d : Declared) (old b1 b2 new : Builder) (to array iw : ℕ) (index : O
     (ws : List WordOp) (w : ℕ)
     (e : Emits b2.words ws w (λ f. element_read (elements_in b2.words (get_or b2.arrays array 0) f)
     (word_in b2.words iw f)))
-    (is : new ≡ record b2 { words = ws; vars = slice_set b2.vars to w }) where
+    (is : new ≡ record b2 {
+      words = ws;
+      vars = slice_set b2.vars to w;
+      written = b2.written ++ to ∷ [];
+    }) where
   abbrev a : ℕ
   a = get_or b1.arrays array 0
 
@@ -444,7 +448,7 @@ pub load-arm : (d : Declared) (old b1 b2 new : Builder) (to array iw : ℕ) (ind
     → (are_words b2.words ≡ true → get_or b2.arrays array 0 < length b2.words → iw < length b2.words
     → Emits b2.words ws w (λ f. element_read (elements_in b2.words (get_or b2.arrays array 0) f) (word_in
     b2.words iw f)))
-    → new ≡ record b2 { words = ws; vars = slice_set b2.vars to w }
+    → new ≡ record b2 { words = ws; vars = slice_set b2.vars to w; written = b2.written ++ to ∷ [] }
     → Means d (λ f r. load_part to array index stmt) old new
 load-arm d old b1 b2 new to array iw index stmt fits h few same1 word1 check ws w e is =
     let all = and_parts (is_var d to && is_array d array) (is_operand d index) h in

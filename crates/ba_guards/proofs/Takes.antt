@@ -1,5 +1,5 @@
 -- What the values of a choice do, from the words that are made for them.
-use Rattle.std.proofs.Common.{rules, ◌≡◌, ℕ, ◌<◌, ℤ, pos, Bool, true, ◌||◌, cond, Some, None, option_map, [], ◌∷◌, length, take, refl, sym, ap, append-nil}
+use Rattle.std.proofs.Common.{rules, ◌≡◌, ℕ, ◌<◌, ℤ, pos, Bool, true, ◌||◌, cond, Some, None, option_map, [], ◌∷◌, length, take, refl, sym, ap, ◌++◌}
 use Rattle.std.specs.Ordering.{int_eq}
 use Rattle.std.specs.Prelude.{slice_set}
 use Rattle.std.proofs.Math.Bool.{and-true}
@@ -9,7 +9,7 @@ use Rattle.ba_code.specs.State.{CodeState, set_variable, with_variable}
 use Rattle.ba_code.specs.declared.nodes.Take.{Take}
 use Rattle.ba_code.specs.declared.nodes.Take.TheVariants.{Value, Truth, Nothing}
 use Rattle.ba_code_laws.specs.Tracing.{untraced}
-use Rattle.ba_guards.proofs.Going.{means-as, means-steady, traced_of}
+use Rattle.ba_guards.proofs.Going.{extends-none, means-as, means-steady, traced_of}
 use Rattle.ba_guards.proofs.Leaves.{assign-means, leaf-runs}
 use Rattle.ba_guards.proofs.Going.{left-resting}
 use Rattle.ba_guards.specs.Continuing.{labels_of}
@@ -30,12 +30,13 @@ value-side : (d : Declared) (b : Builder) (to w : ℕ) (take : Take) (fits : ℤ
     → ((z : ℤ) (c : CodeState) → fits z ≡ true → taken d.arrays take (z ∷ []) c ≡ Some (with_variable to z c))
     → ((f : Assignment) → fits (word_in b.words w f) ≡ true)
     → Means d (λ f r. picked d take (values_in b.words (w ∷ []) f)) b (record b {
-      vars = slice_set b.vars
-          to w;
+      vars = slice_set b.vars to w;
+      written = b.written ++ to ∷ [];
     })
 value-side d b to w take fits fit there name takes right =
     means-as d (λ f r. untraced (λ c. set_variable to (word_in b.words w f) c))
-    (λ f r. picked d take (values_in b.words (w ∷ []) f)) b (record b { vars = slice_set b.vars to w })
+    (λ f r. picked d take (values_in b.words (w ∷ []) f)) b
+    (record b { vars = slice_set b.vars to w; written = b.written ++ to ∷ [] })
     (assign-means d b fit to (λ f c. word_in b.words w f) w (var-below d to there) name (λ f cs. refl))
     (λ f r cs. sym (ap (λ x. untraced (λ c. if_taken x c) (traced_of f b cs))
     (takes (word_in b.words w f) (traced_of f b cs).code (right f))))
@@ -44,8 +45,8 @@ pub take-value : (d : Declared) (b : Builder) (to w : ℕ) (t : CType) → Fits 
     w < length b.words
     → ((f : Assignment) → is_in t (word_in b.words w f) ≡ true)
     → Means d (λ f r. picked d (Value to t) (values_in b.words (w ∷ []) f)) b (record b {
-      vars = slice_set
-          b.vars to w;
+      vars = slice_set b.vars to w;
+      written = b.written ++ to ∷ [];
     })
 take-value d b to w t fit there name right = value-side d b to w (Value to t) (is_in t) fit there name
     (λ z c h. ap (λ b. option_map (λ z. with_variable to z c) (cond b (Some z) None)) h) right
@@ -54,8 +55,8 @@ pub take-truth : (d : Declared) (b : Builder) (to w : ℕ) → Fits d b → is_v
     → ((f : Assignment) →
     (int_eq (word_in b.words w f) (pos 0) || int_eq (word_in b.words w f) (pos 1)) ≡ true)
     → Means d (λ f r. picked d (Truth to) (values_in b.words (w ∷ []) f)) b (record b {
-      vars = slice_set
-          b.vars to w;
+      vars = slice_set b.vars to w;
+      written = b.written ++ to ∷ [];
     })
 take-truth d b to w fit there name right = value-side d b to w (Truth to) (λ z. int_eq z (pos 0) || int_eq
     z (pos 1)) fit there name
@@ -65,7 +66,7 @@ take-truth d b to w fit there name right = value-side d b to w (Truth to) (λ z.
 pub take-nothing : (d : Declared) (b : Builder) → Fits d b
     → Means d (λ f r. picked d Nothing (values_in b.words [] f)) b b
 take-nothing d b fits = means-steady d (λ f r. picked d Nothing []) b b (λ f. true) (record {
-  extends = record { more = []; words = sym (append-nil b.words); labels = refl };
+  extends = extends-none b;
   fits = fits;
   logs = λ f. refl;
   keeps = λ f. sym (and-true (met f b));

@@ -1,5 +1,5 @@
 -- Nodes with parts, each from the calls that make its words.
-use Rattle.std.proofs.Common.{append_assoc, ◌&&◌, ◌≡◌, ℕ, ◌<◌, ◌≤◌, ℤ, pos, Bool, true, false, not, cond, List, [], ◌∷◌, ◌++◌, length, refl, sym, ◌∙◌, ap, subst, arith, append-nil, length-append}
+use Rattle.std.proofs.Common.{append_assoc, ◌&&◌, ◌≡◌, ℕ, ◌<◌, ◌≤◌, ℤ, pos, Bool, true, false, not, cond, List, [], ◌∷◌, ◌++◌, length, drop, refl, sym, ◌∙◌, ap, subst, arith, length-append}
 use Rattle.std.specs.Ordering.{int_eq}
 use Rattle.std.proofs.Math.Bool.{and-true}
 use Rattle.ba_choices.specs.declared.Choice.{Choice}
@@ -12,11 +12,12 @@ use Rattle.ba_code.specs.declared.nodes.Operand.{Operand}
 use Rattle.ba_code_laws.proofs.Equations.{trace-append, trace-none}
 use Rattle.ba_code_laws.specs.Tracing.{Relaxes, Traced, TracedExecution, trace_node, trace_nodes}
 use Rattle.ba_guards.proofs.Arms.{check-nothing, reads-by}
-use Rattle.ba_guards.proofs.Forks.{either-nonzero, fork-means, forked, later-word, open-fits, other-nonzero, switch-fits}
-use Rattle.ba_guards.proofs.Going.{in_turn, live-running, means-as, means-before, means-steady, means-then, resting, traced_of}
+use Rattle.ba_guards.proofs.Forks.{either-nonzero, fork-means, forked, first-agrees, later-word, open-fits, other-nonzero, second-agrees, switch-fits}
+use Rattle.ba_guards.proofs.Going.{extends-none, in_turn, live-running, means-as, means-before, means-steady, means-then, resting, traced_of}
 use Rattle.ba_guards.proofs.Growing.{extensional}
 use Rattle.ba_guards.proofs.Nodes.{reads}
 use Rattle.ba_guards.proofs.Scopes.{scope-fits, scope-means, scoped}
+use Rattle.ba_guards.specs.Written.{AgreeBut}
 use Rattle.ba_guards.specs.Continuing.{labels_of}
 use Rattle.ba_guards.specs.Making.{AreSides, Closes, Emits, Fits, Joins, Means, Opens, Part, Scopes, Switches, checked, fork_at, holds_in, operand_at, sides_at, word_in}
 use Rattle.ba_guards.specs.Reading.{is_live, met, snapshot}
@@ -62,10 +63,13 @@ nodes-more d ns n old mid new first second =
 pub fork-sides : (d : Declared) (which : ℕ) (b0 b1 b2 b3 : Builder) (ws more : List WordOp) (p : Part)
     (after_live : ℕ) (after_vars : List ℕ)
     → Fits d b0 → which < length b0.words → Opens b0 b1 which → Fits d b1 → Means d p b1 b2 →
-    Switches b0.live b0.vars b2 b3 which
+    Switches (length b0.written) b0.live b0.vars b2 b3 which
     → Fits d b3 → ws ≡ b3.words ++ more
-    → AreSides ws (sides_at (fork_at which b1.live b0.live b0.vars) b3.live after_live after_vars)
-fork-sides d which b0 b1 b2 b3 ws more p after_live after_vars fits name o fits1 m sw fits3 grown =
+    → (since : ℕ) (written : List ℕ)
+    → AreSides ws (sides_at (fork_at which since b1.live b0.live b0.vars) b3.live after_live after_vars
+    written)
+fork-sides d which b0 b1 b2 b3 ws more p after_live after_vars fits name o fits1 m sw fits3 grown since
+    written =
     let more2 = o.live.more ++ m.extends.more in
     let grown2 : b2.words ≡ b0.words ++ more2 = m.extends.words ∙ ap (λ ws. ws ++ m.extends.more) o.live.grown
     ∙ append_assoc b0.words o.live.more m.extends.more in
@@ -112,17 +116,19 @@ fork-sides d which b0 b1 b2 b3 ws more p after_live after_vars fits name o fits1
 
 pub sides-arm : (d : Declared) (which : ℕ) (b0 b1 b2 b3 b4 b5 : Builder) (p q : Part) (fork : Fork) (sides
     : Sides) → Fits d b0
-    → which < length b0.words → fork ≡ fork_at which b1.live b0.live b0.vars
+    → which < length b0.words → fork ≡ fork_at which (length b0.written) b1.live b0.live b0.vars
     → ((d : Declared) → Fits d b0 → which < length b0.words → Opens b0 b1 which)
     → (Fits d b1 → Means d p b1 b2)
-    → sides ≡ sides_at fork b3.live b2.live b2.vars
+    → sides ≡ sides_at fork b3.live b2.live b2.vars b2.written
     → ((d : Declared) → Fits d b2 → fork.which < length b2.words → fork.before.live < length b2.words
-    → Switches fork.before.live fork.before.vars b2 b3 fork.which)
+    → Switches fork.since fork.before.live fork.before.vars b2 b3 fork.which)
     → (Fits d b3 → Means d q b3 b4)
     → ((d : Declared) → Fits d b4 → sides.after.live < length b4.words →
     are_names (length b4.words) sides.after.vars ≡ true
-    → length sides.after.vars ≡ length b4.vars → AreSides b4.words sides →
-    Joins sides.after.live sides.after.vars b4 b5)
+    → length sides.after.vars ≡ length b4.vars → AreSides b4.words sides
+    → AgreeBut sides.written sides.before sides.after.vars
+    → AgreeBut (drop sides.since b4.written) sides.before b4.vars →
+    Joins sides.since sides.before sides.after.live sides.after.vars b4 b5)
     → Means d (forked (holds_in b0.words which) p q) b0 b5
 sides-arm d which b0 b1 b2 b3 b4 b5 p q fork sides fits name forks opens taken splits switches other joins =
     let o = opens d fits name in
@@ -138,7 +144,7 @@ sides-arm d which b0 b1 b2 b3 b4 b5 p q fork sides fits name forks opens taken s
     omega (arith, ap length mp.extends.words, length-append b1.words mp.extends.more) in
     let switched = subst (λ (k : Fork). (d : Declared) → Fits d b2 → k.which < length b2.words →
     k.before.live < length b2.words
-    → Switches k.before.live k.before.vars b2 b3 k.which) forks switches in
+    → Switches k.since k.before.live k.before.vars b2 b3 k.which) forks switches in
     let sw = switched d mp.fits (omega (arith, name, le1, le2)) (omega (arith, fits.live, le1, le2)) in
     let fits3 = switch-fits d which b0 b1 b2 b3 p fits name o mp sw in
     let mq = other fits3 in
@@ -153,13 +159,17 @@ sides-arm d which b0 b1 b2 b3 b4 b5 p q fork sides fits name forks opens taken s
     let joined = subst (λ (s : Sides). (d : Declared) → Fits d b4 → s.after.live < length b4.words
     → are_names (length b4.words) s.after.vars ≡ true → length s.after.vars ≡ length b4.vars →
     AreSides b4.words s
-    → Joins s.after.live s.after.vars b4 b5) (splits ∙ ap (λ k. sides_at k b3.live b2.live b2.vars) forks)
+    → AgreeBut s.written s.before s.after.vars → AgreeBut (drop s.since b4.written) s.before b4.vars
+    → Joins s.since s.before s.after.live s.after.vars b4 b5)
+    (splits ∙ ap (λ k. sides_at k b3.live b2.live b2.vars b2.written) forks)
     joins in
     let j = joined d mq.fits (omega (arith, mp.fits.live, le3, le4))
     (names-more (length b2.words) (length b4.words) b2.vars (omega (arith, le3, le4)) mp.fits.vars)
     (mp.fits.var_count ∙ sym mq.fits.var_count)
     (fork-sides d which b0 b1 b2 b3 b4.words mq.extends.more p b2.live b2.vars fits name o fits1 mp sw
-    fits3 mq.extends.words) in
+    fits3 mq.extends.words (length b0.written) b2.written)
+    (first-agrees which b0 b1 b2 o mp.extends)
+    (second-agrees which b0 b1 b2 b3 b4 o mp.extends sw mq.extends) in
     fork-means d which b0 b1 b2 b3 b4 b5 p q fits name o fits1 mp sw fits3 mq j
 
 -- the side that a value takes
@@ -228,7 +238,7 @@ one-arm d old b1 new w value when taken other fits fit same word constant side =
 pub never-means : (d : Declared) (part : Part) (b : Builder) → Fits d b
     → ((f : Assignment) → is_live (values_of f b.words) b ≡ false) → Means d part b b
 never-means d part b fits off = means-steady d part b b (λ f. true) (record {
-  extends = record { more = []; words = sym (append-nil b.words); labels = refl };
+  extends = extends-none b;
   fits = fits;
   logs = λ f. refl;
   keeps = λ f. sym (and-true (met f b));

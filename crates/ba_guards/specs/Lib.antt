@@ -6,3 +6,4 @@ pub mod Sharing
 pub mod Chunks
 pub mod Parts
 pub mod Starting
+pub mod Written

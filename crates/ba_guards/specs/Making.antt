@@ -1,6 +1,6 @@
 -- What is added to a list of words, and what it then says.
 
-use Rattle.std.specs.Prelude.{◌≡◌, ◌⊎◌, slice_set, not, [], ◌∷◌, ℕ, ◌<◌, ◌==◌, ℤ, pos, Bool, true, false, ◌&&◌, ◌||◌, cond, Some, Ok, Err, List, ◌++◌, map, length, slice_get, slice_index_or}
+use Rattle.std.specs.Prelude.{◌≡◌, ◌⊎◌, slice_set, not, [], ◌∷◌, ℕ, ◌<◌, ◌==◌, ℤ, pos, Bool, true, false, ◌&&◌, ◌||◌, cond, Some, Ok, Err, List, ◌++◌, map, length, drop, take, slice_get, slice_index_or}
 use Rattle.std.specs.List.{list_all}
 use Rattle.std.specs.Ordering.{int_eq}
 use Rattle.ba_choices.specs.declared.Choice.{Choice}
@@ -17,6 +17,7 @@ use Rattle.ba_code_laws.specs.Visits.{Visit, are_kept, chosen}
 use Rattle.ba_guards.specs.Continuing.{continued, ended, exit_of, labels_of}
 use Rattle.ba_guards.specs.Reading.{Snapshot, is_live, left_from, met, snapshot, variables_at, visits}
 use Rattle.ba_guards.specs.Reading.Status.{idle}
+use Rattle.ba_guards.specs.Written.{AgreeBut, AreSince, AreWritten, frames_of}
 use Rattle.ba_guards.specs.declared.builder.Builder.{Builder}
 use Rattle.ba_guards.specs.declared.builder.Fork.{Fork}
 use Rattle.ba_guards.specs.declared.builder.Sides.{Sides}
@@ -85,7 +86,8 @@ is_single vs [] = true
 is_single vs (e ∷ es) = cond (is_nonzero (value_at vs e.live)) (are_off vs es) (is_single vs es)
 
 -- all that is named is there, words 0 and 1 are those numbers, values of choices show their types, a run
--- that comes to the end of the list has left no block, and none has left two
+-- that comes to the end of the list has left no block, none has left two, and what was written since a
+-- block began is known
 pub record Fits (d : Declared) (b : Builder) : Type 0 where
   pub words : are_words b.words ≡ true
   pub zero : slice_get b.words 0 ≡ Some (Const (pos 0))
@@ -106,12 +108,28 @@ pub record Fits (d : Declared) (b : Builder) : Type 0 where
   pub apart : (f : Assignment) → is_live (values_of f b.words) b ≡ true
       → left_from (values_of f b.words) 0 b.exits ≡ idle
   pub single : (f : Assignment) → is_single (values_of f b.words) b.exits ≡ true
+  pub since : AreSince b.written b.vars (frames_of b.exits)
+  pub written : AreWritten b.exits
+
+-- these variables were written, and all others have the same word
+pub record Writes (old new : Builder) : Type 0 where
+  pub set : List ℕ
+  pub written : new.written ≡ old.written ++ set
+  pub kept : AgreeBut set old.vars new.vars
+  pub frames : frames_of new.exits ≡ frames_of old.exits
+
+-- of what was written since a moment, these have other words than then
+pub record Gathers (since : ℕ) (before : List ℕ) (old new : Builder) : Type 0 where
+  pub numbers : List ℕ
+  pub written : new.written ≡ take since old.written ++ numbers
+  pub kept : AgreeBut numbers before new.vars
 
 -- words were added, and the blocks around are the same
 pub record Extends (old new : Builder) : Type 0 where
   pub more : List WordOp
   pub words : new.words ≡ old.words ++ more
   pub labels : labels_of new.exits ≡ labels_of old.exits
+  pub writes : Writes old new
 
 -- PARTS OF A RUN
 
@@ -223,27 +241,36 @@ pub record Opens (old new : Builder) (which : ℕ) : Type 0 where
       (λ f. cond (holds_in old.words which f) (word_in old.words old.live f) (pos 0))
 
 -- the other side begins behind the one, where the run stood before both
-pub record Switches (was_live : ℕ) (was_vars : List ℕ) (old new : Builder) (which : ℕ) :
+pub record Switches (since was_live : ℕ) (was_vars : List ℕ) (old new : Builder) (which : ℕ) :
     Type 0 where
-  pub same : new ≡ record old { words = new.words; live = new.live; vars = was_vars }
+  pub same : new ≡ record old {
+    words = new.words;
+    live = new.live;
+    vars = was_vars;
+    written = take since old.written;
+  }
   pub live : Emits old.words new.words new.live
       (λ f. cond (holds_in old.words which f) (pos 0) (word_in old.words was_live f))
 
 -- what is kept of a branch where a side begins
-abbrev pub fork_at : ℕ → ℕ → ℕ → List ℕ → Fork
-fork_at which first live vars = record {
+abbrev pub fork_at : ℕ → ℕ → ℕ → ℕ → List ℕ → Fork
+fork_at which since first live vars = record {
   which = which;
   first = first;
+  since = since;
   before = record { live = live; vars = vars };
 }
 
-abbrev pub sides_at : Fork → ℕ → ℕ → List ℕ → Sides
-sides_at fork second live vars = record {
+abbrev pub sides_at : Fork → ℕ → ℕ → List ℕ → List ℕ → Sides
+sides_at fork second live vars written = record {
   which = fork.which;
   live = fork.before.live;
   first = fork.first;
   second = second;
+  before = fork.before.vars;
+  since = fork.since;
   after = record { live = live; vars = vars };
+  written = drop fork.since written;
 }
 
 -- the run comes to one side of a branch where it comes to the branch
@@ -258,8 +285,15 @@ pub record AreSides (ws : List WordOp) (s : Sides) : Type 0 where
       → holds_in ws s.second f ≡ (not (holds_in ws s.which f) && holds_in ws s.live f)
 
 -- both sides end, the one where the run stood after it
-pub record Joins (yes_live : ℕ) (yes_vars : List ℕ) (old new : Builder) : Type 0 where
-  pub same : new ≡ record old { words = new.words; live = new.live; vars = new.vars }
+pub record Joins (since : ℕ) (before : List ℕ) (yes_live : ℕ) (yes_vars : List ℕ)
+    (old new : Builder) : Type 0 where
+  pub same : new ≡ record old {
+    words = new.words;
+    live = new.live;
+    vars = new.vars;
+    written = new.written;
+  }
+  pub gathers : Gathers since before old new
   pub ways : EitherWay old.words new.words (length old.vars) yes_live yes_vars old.live old.vars
       new.live new.vars
 
@@ -268,7 +302,14 @@ pub record Joins (yes_live : ℕ) (yes_vars : List ℕ) (old new : Builder) : Ty
 -- a block begins
 pub record Scopes (old new : Builder) (label : ℕ) : Type 0 where
   pub same : new ≡ record old {
-    exits = old.exits ++ (record { label = label; live = 0; vars = old.vars }) ∷ [];
+    exits = old.exits ++ (record {
+      label = label;
+      since = length old.written;
+      base = old.vars;
+      live = 0;
+      vars = old.vars;
+      written = [];
+    }) ∷ [];
   }
 
 -- and ends: the run comes to the end of the list also where it has left the block
@@ -277,8 +318,10 @@ pub record Closes (old new : Builder) (exit : Exit) : Type 0 where
     words = new.words;
     live = new.live;
     vars = new.vars;
+    written = new.written;
     exits = new.exits;
   }
+  pub gathers : Gathers exit.since exit.base old new
   pub exits : old.exits ≡ new.exits ++ exit ∷ []
   pub ways : EitherWay old.words new.words (length old.vars) exit.live exit.vars old.live old.vars
       new.live new.vars
@@ -289,12 +332,14 @@ pub record Leaving (old new : Builder) (label : ℕ) : Type 0 where
   pub found : slice_get old.exits (exit_of (labels_of old.exits) label) ≡ Some exit
   pub new_live : ℕ
   pub new_vars : List ℕ
+  pub new_written : List ℕ
   pub same : new ≡ record old {
     words = new.words;
     live = 0;
     exits = slice_set old.exits (exit_of (labels_of old.exits) label)
-        (record { label = exit.label; live = new_live; vars = new_vars });
+        (record exit { live = new_live; vars = new_vars; written = new_written });
   }
+  pub kept : AgreeBut new_written exit.base new_vars
   pub ways : EitherWay old.words new.words (length exit.vars) old.live old.vars exit.live exit.vars
       new_live new_vars
 

@@ -1,9 +1,10 @@
 //! The list that is made, and where the run stands at its end.
 
-ghost use Rattle.std.specs.Prelude.{◌≡◌, ◌<◌, ℕ, pos, true, IfOk, OnOk, Some, length, slice_get};
+ghost use Rattle.std.specs.Prelude.{◌≡◌, ◌<◌, ◌++◌, ◌∷◌, [], ℕ, pos, true, IfOk, OnOk, Some, drop, length, slice_get, slice_set};
 ghost use Rattle.ba_code.specs.Facts.{Declared, is_operand};
-ghost use Rattle.ba_guards.specs.Making.{AreSides, Closes, Demands, EitherWay, Emits, Fits, Joins, Leaving, Opens, Places, Scopes, Switches, fork_at, operand_at, sides_at, word_in};
+ghost use Rattle.ba_guards.specs.Making.{AreSides, Closes, Demands, EitherWay, Emits, Fits, Gathers, Joins, Leaving, Opens, Places, Scopes, Switches, fork_at, operand_at, sides_at, word_in};
 ghost use Rattle.ba_guards.specs.declared.exits.Exit.{Exit};
+ghost use Rattle.ba_guards.specs.Written.{AgreeBut};
 ghost use Rattle.ba_wordlist.specs.Facts.{are_names, are_words};
 ghost use Rattle.ba_wordlist.specs.Meaning.{values_of};
 ghost use Rattle.ba_wordlist.specs.declared.words.WordOp.TheVariants.{Const};
@@ -21,13 +22,15 @@ use std::alloc::{AllocError, Global};
 use std::mem;
 
 /// What was made so far, and where the run stands then: it comes to the end of the list where the word `live` isn't 0, with the variables
-/// at `vars`. The arrays are at `arrays`, whether it does or not.
+/// at `vars`. The arrays are at `arrays`, whether it does or not. The variables that were written are at `written`, in their order, and
+/// those of a branch or block that ended once each.
 #[derive(Drop)]
 pub struct Builder {
     pub words: Words,
     pub require: Names,
     pub places: Items<PlaceWords>,
     pub vars: Variables,
+    pub written: Names,
     pub arrays: Names,
     pub live: u32,
     pub exits: Exits,
@@ -40,24 +43,28 @@ pub struct Branch {
     pub vars: Variables,
 }
 
-/// A branch whose first side was begun: the word of its condition, where the run stood before, and the word `first` of whether it came to
-/// that side.
+/// A branch whose first side was begun: the word of its condition, where the run stood before, how many variables were written by then,
+/// and the word `first` of whether it came to that side.
 #[derive(Drop)]
 pub struct Fork {
     pub which: u32,
     pub first: u32,
+    pub since: usize,
     pub before: Branch,
 }
 
 /// A branch whose second side was begun: the words of its condition and of whether the run came to it, to the first side and to the second,
-/// and where it stood after the first.
+/// the variables before it, how many were written by then, where the run stood after the first side, and what that one wrote.
 #[derive(Drop)]
 pub struct Sides {
     pub which: u32,
     pub live: u32,
     pub first: u32,
     pub second: u32,
+    pub before: Variables,
+    pub since: usize,
     pub after: Branch,
+    pub written: Names,
 }
 
 impl Builder {
@@ -78,6 +85,18 @@ impl Builder {
         }
     }
 
+    /// Gives a variable another word.
+    pub fn assign(&mut self, to: u32, word: u32) -> Result<(), AllocError>
+        ensures { OnOk result (self.new ≡ record self.old {
+          vars = slice_set self.old.vars to word;
+          written = self.old.written ++ to ∷ [];
+        }) }
+    {
+        self.vars.set(to, word)?;
+        self.written.push(to)?;
+        Ok(())
+    }
+
     /// Requires a word to be other than 0, where the run comes to the end of the list.
     pub fn demand(&mut self, condition: u32) -> Result<(), AllocError>
         ensures { OnOk result ((d : Declared) → Fits d self.old → condition < length self.old.words
@@ -93,9 +112,10 @@ impl Builder {
 
     /// Begins the side of a branch that is taken where a word isn't 0.
     #[inline(never)]
-    pub fn open(&mut self, alloc: Global, which: u32) -> Result<Fork, AllocError>
+    pub fn open(&mut self, alloc: Global, which: u32) -> Result<Box<Fork>, AllocError>
         ensures fork { IfOk result
-            (λ fork. fork ≡ fork_at which self.new.live self.old.live self.old.vars) }
+            (λ fork. fork.value ≡ fork_at which (length self.old.written) self.new.live self.old.live
+            self.old.vars) }
         ensures opens { IfOk result (λ fork. (d : Declared) → Fits d self.old
             → which < length self.old.words
             → Opens self.old self.new which) }
@@ -107,73 +127,139 @@ impl Builder {
             vars,
         };
         self.live = first;
-        Ok(Fork {
+        let fork = Fork {
             which,
             first,
+            since: self.written.len(),
             before,
-        })
+        };
+        let fork = Box::new(alloc, fork)?;
+        Ok(fork)
     }
 
     /// Begins the other side, from where the run stood before.
     #[inline(never)]
-    pub fn switch(&mut self, fork: Fork) -> Result<Sides, AllocError>
+    pub fn switch(&mut self, alloc: Global, fork: Box<Fork>) -> Result<Box<Sides>, AllocError>
         ensures sides { IfOk result
-            (λ sides. sides ≡ sides_at fork self.new.live self.old.live self.old.vars) }
+            (λ sides. sides.value ≡ sides_at fork.value self.new.live self.old.live self.old.vars
+            self.old.written) }
         ensures switches { IfOk result (λ sides. (d : Declared) → Fits d self.old
-            → fork.which < length self.old.words
-            → fork.before.live < length self.old.words
-            → Switches fork.before.live fork.before.vars self.old self.new fork.which) }
+            → fork.value.which < length self.old.words
+            → fork.value.before.live < length self.old.words
+            → Switches fork.value.since fork.value.before.live fork.value.before.vars
+            self.old self.new fork.value.which) }
     {
         let Fork {
             which,
             first,
+            since,
             before,
-        } = fork;
+        } = Box::into_inner(fork);
         let Branch { live, vars } = before;
         let second = self.words.select(which, ZERO, live)?;
+        let written = self.written.behind(alloc, since)?;
+        self.written.truncate(since);
+        let before = vars.copied(alloc)?;
         let after = Branch {
             live: self.live,
             vars: mem::replace(&mut self.vars, vars),
         };
         self.live = second;
-        Ok(Sides {
+        let sides = Sides {
             which,
             live,
             first,
             second,
+            before,
+            since,
             after,
-        })
+            written,
+        };
+        let sides = Box::new(alloc, sides)?;
+        Ok(sides)
     }
 
     /// Ends both sides of a branch. Where neither side leaves a block, the run comes here where it came to the branch.
     #[inline(never)]
-    pub fn join(&mut self, alloc: Global, sides: Sides) -> Result<(), AllocError>
+    pub fn join(&mut self, alloc: Global, sides: Box<Sides>) -> Result<(), AllocError>
         ensures { OnOk result ((d : Declared) → Fits d self.old
-            → sides.after.live < length self.old.words
-            → are_names (length self.old.words) sides.after.vars ≡ true
-            → length sides.after.vars ≡ length self.old.vars
-            → AreSides self.old.words sides
-            → Joins sides.after.live sides.after.vars self.old self.new) }
+            → sides.value.after.live < length self.old.words
+            → are_names (length self.old.words) sides.value.after.vars ≡ true
+            → length sides.value.after.vars ≡ length self.old.vars
+            → AreSides self.old.words sides.value
+            → AgreeBut sides.value.written sides.value.before sides.value.after.vars
+            → AgreeBut (drop sides.value.since self.old.written) sides.value.before self.old.vars
+            → Joins sides.value.since sides.value.before sides.value.after.live sides.value.after.vars
+            self.old self.new) }
     {
-        let after = sides.after;
+        let sides = Box::into_inner(sides);
+        let numbers = self.written.since(alloc, sides.since, &sides.written)?;
+        self.join_sides(alloc, &numbers, &sides)?;
+        self.write_since(alloc, sides.since, &sides.before, &numbers)?;
+        Ok(())
+    }
+
+    /// Goes on behind both sides, whose variables have the same words but for these.
+    fn join_sides(
+        &mut self,
+        alloc: Global,
+        numbers: &Names,
+        sides: &Sides,
+    ) -> Result<(), AllocError>
+        ensures same { OnOk result (self.new ≡ record self.old {
+          words = self.new.words;
+          live = self.new.live;
+          vars = self.new.vars;
+        }) }
+        ensures kept { OnOk result (AgreeBut numbers.now sides.now.after.vars self.old.vars
+            → AgreeBut numbers.now self.old.vars self.new.vars) }
+        ensures ways { OnOk result ((d : Declared) → Fits d self.old
+            → sides.now.after.live < length self.old.words
+            → are_names (length self.old.words) sides.now.after.vars ≡ true
+            → length sides.now.after.vars ≡ length self.old.vars
+            → AreSides self.old.words sides.now
+            → AgreeBut numbers.now sides.now.after.vars self.old.vars
+            → EitherWay self.old.words self.new.words (length self.old.vars) sides.now.after.live
+            sides.now.after.vars self.old.live self.old.vars self.new.live self.new.vars) }
+    {
+        let after = &sides.after;
         if (after.live == sides.first) & (self.live == sides.second) {
-            let vars = after
-                .vars
-                .merged(alloc, &mut self.words, sides.which, &self.vars)?;
-            self.vars = vars;
+            self.vars.merge(
+                &mut self.words,
+                sides.which,
+                &after.vars,
+                numbers.as_slice(),
+            )?;
             self.live = sides.live;
             return Ok(());
         }
-        let here = either_way(
+        either_way(
             alloc,
             &mut self.words,
+            numbers,
             after.live,
             &after.vars,
-            self.live,
-            &self.vars,
+            &mut self.live,
+            &mut self.vars,
         )?;
-        self.vars = here.vars;
-        self.live = here.live;
+        Ok(())
+    }
+
+    /// Of what was written since a moment, which are these variables at most, leaves those that have other words than then.
+    fn write_since(
+        &mut self,
+        alloc: Global,
+        since: usize,
+        before: &Variables,
+        numbers: &Names,
+    ) -> Result<(), AllocError>
+        ensures same { OnOk result (self.new ≡ record self.old { written = self.new.written }) }
+        ensures gathers { OnOk result (AgreeBut numbers.now before.now self.old.vars
+            → Gathers since before.now self.old self.new) }
+    {
+        let changed = self.vars.changed(alloc, before, numbers.as_slice())?;
+        self.written.truncate(since);
+        self.written.append(&changed)?;
         Ok(())
     }
 
@@ -182,11 +268,15 @@ impl Builder {
     pub fn begin_block(&mut self, alloc: Global, label: u32) -> Result<(), AllocError>
         ensures { OnOk result (Scopes self.old self.new label) }
     {
+        let base = self.vars.copied(alloc)?;
         let vars = self.vars.copied(alloc)?;
         self.exits.push(Exit {
             label,
+            since: self.written.len(),
+            base,
             live: ZERO,
             vars,
+            written: Names::new(alloc),
         })?;
         Ok(())
     }
@@ -200,16 +290,17 @@ impl Builder {
         let Some(exit) = self.exits.pop() else {
             return Ok(());
         };
-        let here = either_way(
+        let numbers = self.written.since(alloc, exit.since, &exit.written)?;
+        either_way(
             alloc,
             &mut self.words,
+            &numbers,
             exit.live,
             &exit.vars,
-            self.live,
-            &self.vars,
+            &mut self.live,
+            &mut self.vars,
         )?;
-        self.vars = here.vars;
-        self.live = here.live;
+        self.write_since(alloc, exit.since, &exit.base, &numbers)?;
         Ok(())
     }
 
@@ -221,15 +312,20 @@ impl Builder {
         let Some(exit) = self.exits.get(index) else {
             return Ok(());
         };
-        let left = either_way(
+        let numbers = self.written.since(alloc, exit.since, &exit.written)?;
+        let mut live = exit.live;
+        let mut vars = exit.vars.copied(alloc)?;
+        either_way(
             alloc,
             &mut self.words,
+            &numbers,
             self.live,
             &self.vars,
-            exit.live,
-            &exit.vars,
+            &mut live,
+            &mut vars,
         )?;
-        self.exits.set(index, left.live, left.vars);
+        let written = vars.changed(alloc, &exit.base, numbers.as_slice())?;
+        self.exits.set(index, live, vars, written);
         self.live = ZERO;
         Ok(())
     }
@@ -259,39 +355,41 @@ impl Builder {
     }
 }
 
-/// Where the run stands behind two ways, of which it takes at most one.
+/// Where the run stands behind two ways, of which it takes at most one: `live` and `vars` are those of the other way, and then of both. All
+/// variables but these have the same word on both.
 ///
 /// The one error is want of memory.
 #[inline(never)]
 fn either_way(
     alloc: Global,
     words: &mut Words,
-    live: u32,
-    vars: &Variables,
-    other_live: u32,
-    other_vars: &Variables,
-) -> Result<Branch, AllocError>
-    ensures { IfOk result (λ to. are_words words.old ≡ true
+    numbers: &Names,
+    way_live: u32,
+    way_vars: &Variables,
+    live: &mut u32,
+    vars: &mut Variables,
+) -> Result<(), AllocError>
+    ensures kept { OnOk result (AgreeBut numbers.now way_vars.now vars.old
+        → AgreeBut numbers.now vars.old vars.new) }
+    ensures ways { OnOk result (are_words words.old ≡ true
         → slice_get words.old 1 ≡ Some (Const (pos 1))
-        → live < length words.old → are_names (length words.old) vars.now ≡ true
-        → other_live < length words.old → are_names (length words.old) other_vars.now ≡ true
-        → length vars.now ≡ length other_vars.now
-        → EitherWay words.old words.new
-        (length other_vars.now) live vars.now other_live other_vars.now to.live to.vars) }
+        → way_live < length words.old → are_names (length words.old) way_vars.now ≡ true
+        → live.old < length words.old → are_names (length words.old) vars.old ≡ true
+        → length way_vars.now ≡ length vars.old → AgreeBut numbers.now way_vars.now vars.old
+        → EitherWay words.old words.new (length vars.old) way_live way_vars.now live.old vars.old
+        live.new vars.new) }
 {
-    if words.is_zero(live) {
-        return Ok(Branch {
-            live: other_live,
-            vars: other_vars.copied(alloc)?,
-        });
+    if words.is_zero(way_live) {
+        return Ok(());
     }
-    if words.is_zero(other_live) {
-        return Ok(Branch {
-            live,
-            vars: vars.copied(alloc)?,
-        });
+    if words.is_zero(*live) {
+        let copied = way_vars.copied(alloc)?;
+        *live = way_live;
+        *vars = copied;
+        return Ok(());
     }
-    let merged = vars.merged(alloc, words, live, other_vars)?;
-    let live = words.select(live, ONE, other_live)?;
-    Ok(Branch { live, vars: merged })
+    vars.merge(words, way_live, way_vars, numbers.as_slice())?;
+    let both = words.select(way_live, ONE, *live)?;
+    *live = both;
+    Ok(())
 }

@@ -4,16 +4,21 @@ ghost use Rattle.std.specs.Prelude.{◌≡◌, ◌==◌, cond, ◌++◌, ◌∷�
 ghost use Rattle.ba_guards.specs.Continuing.{exit_of, labels_of};
 ghost use Rattle.ba_guards.specs.declared.exits.Exit.{Exit};
 
+use crate::names::Names;
 use crate::variables::Variables;
 use std::alloc::{AllocError, Global};
 use std::marker::Model;
 
-/// The exit of a block: where `live` isn't 0 the run has left it, with the variables at `vars`.
+/// The exit of a block: where `live` isn't 0 the run has left it, with the variables at `vars`. The block began where the variables were
+/// at `base`, and so many of them had been written; at the exit all are at `base` but for those in `written`.
 #[derive(Drop)]
 pub struct Exit {
     pub label: u32,
+    pub since: usize,
+    pub base: Variables,
     pub live: u32,
     pub vars: Variables,
+    pub written: Names,
 }
 
 /// The exits of blocks, the outermost first. Contracts see their list.
@@ -57,13 +62,16 @@ impl Exits {
     }
 
     /// Puts other words at an exit.
-    pub fn set(&mut self, index: usize, live: u32, vars: Variables)
+    pub fn set(&mut self, index: usize, live: u32, vars: Variables, written: Names)
         ensures { (exit : Exit) → slice_get self.old index ≡ Some exit
-            → self.new ≡ slice_set self.old index (record exit { live = live; vars = vars }) }
+            → self.new ≡ slice_set self.old index
+            (record exit { live = live; vars = vars; written = written }) }
     {
         if index < self.items.len() {
-            let label = self.items[index].label;
-            self.items[index] = Exit { label, live, vars };
+            let exit = &mut self.items[index];
+            exit.live = live;
+            exit.vars = vars;
+            exit.written = written;
         }
     }
 

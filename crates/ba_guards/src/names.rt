@@ -1,6 +1,7 @@
 //! Lists of words by their numbers.
 
-ghost use Rattle.std.specs.Prelude.{◌≡◌, ◌++◌, ◌∷◌, [], IfOk, OnOk, length, replicate, slice_index_or, slice_set};
+ghost use Rattle.std.specs.Prelude.{◌≡◌, ◌++◌, ◌∷◌, [], ℕ, IfOk, OnOk, drop, length, replicate, slice_index_or, slice_set, take};
+ghost use Rattle.ba_guards.specs.Written.{is_among};
 
 use ba_items::Items;
 use std::alloc::{AllocError, Global};
@@ -92,6 +93,48 @@ impl Names {
         Ok(())
     }
 
+    /// Adds names at the end.
+    ///
+    /// The one error is want of memory.
+    pub fn append(&mut self, names: &Names) -> Result<(), AllocError>
+        ensures { OnOk result (self.new ≡ self.old ++ names.now) }
+    {
+        self.items.extend_from_slice(names.as_slice())?;
+        Ok(())
+    }
+
+    /// Leaves so many names. It takes no memory.
+    pub fn truncate(&mut self, count: usize)
+        ensures { self.new ≡ take count self.old }
+    {
+        self.items.truncate(count);
+    }
+
+    /// What is behind so many names.
+    ///
+    /// The one error is want of memory.
+    pub fn behind(&self, alloc: Global, start: usize) -> Result<Names, AllocError>
+        ensures { IfOk result (λ names. names ≡ drop start self.now) }
+    {
+        Ok(Names {
+            items: Vec::from_slice(alloc, behind(self.items.as_slice(), start))?,
+        })
+    }
+
+    /// What is behind so many names, and others, in ascending order and each once.
+    ///
+    /// The one error is want of memory.
+    pub fn since(&self, alloc: Global, start: usize, others: &Names) -> Result<Names, AllocError>
+        ensures { IfOk result (λ names. (n : ℕ) →
+            is_among n names ≡ is_among n (drop start self.now ++ others.now)) }
+    {
+        let mut items = Vec::from_slice(alloc, behind(self.items.as_slice(), start))?;
+        items.extend_from_slice(others.as_slice())?;
+        items.sort_unstable();
+        items.dedup();
+        Ok(Names { items })
+    }
+
     /// The names once more.
     ///
     /// The one error is want of memory.
@@ -115,5 +158,16 @@ impl Names {
         ensures { result.now ≡ self.now }
     {
         self.items.as_slice()
+    }
+}
+
+/// What is behind so many names.
+fn behind(names: &[u32], start: usize) -> &[u32]
+    ensures { result.now ≡ drop start names.now }
+{
+    if start <= names.len() {
+        &names[start..]
+    } else {
+        &[]
     }
 }

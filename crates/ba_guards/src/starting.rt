@@ -36,8 +36,11 @@ pub fn start(alloc: Global, vars: u32, arrays: &[ArrayInfo]) -> Result<Builder, 
     let mut exits = Exits::new(alloc);
     exits.push(Exit {
         label: 0,
+        since: 0,
+        base: Variables::zeros(alloc, vars as usize)?,
         live: ZERO,
         vars: Variables::zeros(alloc, vars as usize)?,
+        written: Names::new(alloc),
     })?;
     let zeros = Variables::zeros(alloc, vars as usize)?;
     Ok(Builder {
@@ -45,6 +48,7 @@ pub fn start(alloc: Global, vars: u32, arrays: &[ArrayInfo]) -> Result<Builder, 
         require: Names::new(alloc),
         places: Items::new(alloc),
         vars: zeros,
+        written: Names::new(alloc),
         arrays: versions,
         live: ONE,
         exits,

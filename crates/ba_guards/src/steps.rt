@@ -25,7 +25,7 @@ pub fn set(b: &mut Builder, to: u32, from: Operand) -> Result<(), AllocError>
         → Means d (λ f r. set_part to from) b.old b.new) }
 {
     let word = b.operand(from)?;
-    b.vars.set(to, word)?;
+    b.assign(to, word)?;
     Ok(())
 }
 
@@ -37,7 +37,7 @@ pub fn unary(b: &mut Builder, to: u32, op: UnOp, t: CType, a: Operand) -> Result
 {
     let a = b.operand(a)?;
     let word = b.words.unary(op, t, a)?;
-    b.vars.set(to, word)?;
+    b.assign(to, word)?;
     Ok(())
 }
 
@@ -48,7 +48,7 @@ pub fn convert(b: &mut Builder, to: u32, t: CType, a: Operand) -> Result<(), All
 {
     let a = b.operand(a)?;
     let word = b.words.convert(t, a)?;
-    b.vars.set(to, word)?;
+    b.assign(to, word)?;
     Ok(())
 }
 
@@ -70,7 +70,7 @@ pub fn binary(
     let right = b.operand(right)?;
     demand_divisor(b, op, t, right)?;
     let word = b.words.binary(op, t, left, right)?;
-    b.vars.set(to, word)?;
+    b.assign(to, word)?;
     Ok(())
 }
 
@@ -128,7 +128,7 @@ pub fn load(
     let index = b.operand(index)?;
     demand_index(b, length_of(arrays, array), index)?;
     let word = b.words.read(b.arrays.at(array), index)?;
-    b.vars.set(to, word)?;
+    b.assign(to, word)?;
     Ok(())
 }
 

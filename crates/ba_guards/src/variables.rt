@@ -5,6 +5,7 @@ ghost use Rattle.std.specs.List.{concat};
 ghost use Rattle.std.specs.Rc.{rc_value};
 ghost use Rattle.ba_guards.specs.Chunks.{AreChunks};
 ghost use Rattle.ba_guards.specs.Making.{Merges, holds_in};
+ghost use Rattle.ba_guards.specs.Written.{AgreeBut};
 ghost use Rattle.ba_wordlist.specs.Facts.{are_names, are_words};
 
 use crate::names::Names;
@@ -79,32 +80,51 @@ impl Variables {
         })
     }
 
-    /// For each variable its word where `which` isn't 0, and else that in `no`. A chunk that is the
-    /// same in both is shared.
+    /// Gives each of these variables its word in `yes` where `which` isn't 0, and keeps its word elsewhere. All others have the same word
+    /// in both.
     ///
     /// The one error is want of memory.
-    pub fn merged(
-        &self,
-        alloc: Global,
+    pub fn merge(
+        &mut self,
         words: &mut Words,
         which: u32,
-        no: &Variables,
-    ) -> Result<Variables, AllocError>
-        ensures { IfOk result (λ merged. are_words words.old ≡ true → which < length words.old
-            → are_names (length words.old) self.now ≡ true
-            → are_names (length words.old) no.now ≡ true → length self.now ≡ length no.now
-            → Merges words.old words.new (length no.now)
-            (holds_in words.old which) self.now no.now merged) }
+        yes: &Variables,
+        numbers: &[u32],
+    ) -> Result<(), AllocError>
+        ensures kept { OnOk result (AgreeBut numbers.now self.old self.new) }
+        ensures merges { OnOk result (are_words words.old ≡ true → which < length words.old
+            → are_names (length words.old) yes.now ≡ true
+            → are_names (length words.old) self.old ≡ true → length yes.now ≡ length self.old
+            → AgreeBut numbers.now yes.now self.old
+            → Merges words.old words.new (length self.old)
+            (holds_in words.old which) yes.now self.old self.new) }
     {
-        Ok(Variables {
-            chunks: merged_chunks(
-                alloc,
-                words,
-                which,
-                self.chunks.as_slice(),
-                no.chunks.as_slice(),
-            )?,
-        })
+        for number in numbers {
+            let word = words.select(which, yes.at(*number), self.at(*number))?;
+            self.set(*number, word)?;
+        }
+        Ok(())
+    }
+
+    /// Those of the variables whose words are others than before.
+    ///
+    /// The one error is want of memory.
+    pub fn changed(
+        &self,
+        alloc: Global,
+        before: &Variables,
+        numbers: &[u32],
+    ) -> Result<Names, AllocError>
+        ensures { IfOk result (λ changed. AgreeBut numbers.now before.now self.now
+            → AgreeBut changed before.now self.now) }
+    {
+        let mut changed = Names::new(alloc);
+        for number in numbers {
+            if before.at(*number) != self.at(*number) {
+                changed.push(*number)?;
+            }
+        }
+        Ok(changed)
     }
 }
 
@@ -173,68 +193,4 @@ fn set_in_chunk(
     words.set_index(index, word);
     *chunk = Rc::new(alloc, words)?;
     Ok(())
-}
-
-/// The chunks of `yes` where `which` isn't 0, and else those of `no`.
-fn merged_chunks(
-    alloc: Global,
-    words: &mut Words,
-    which: u32,
-    yes: &[Rc<Names>],
-    no: &[Rc<Names>],
-) -> Result<Vec<Rc<Names>>, AllocError>
-    ensures shape { IfOk result (λ merged. map length (map rc_value merged.items)
-        ≡ map length (map rc_value no.now)) }
-    ensures merges { IfOk result (λ merged. are_words words.old ≡ true → which < length words.old
-        → are_names (length words.old) (concat (map rc_value yes.now)) ≡ true
-        → are_names (length words.old) (concat (map rc_value no.now)) ≡ true
-        → map length (map rc_value yes.now) ≡ map length (map rc_value no.now)
-        → Merges words.old words.new (length (concat (map rc_value no.now)))
-        (holds_in words.old which) (concat (map rc_value yes.now)) (concat (map rc_value no.now))
-        (concat (map rc_value merged.items))) }
-{
-    let mut merged = Vec::new(alloc);
-    for index in 0..no.len() {
-        let other = &no[index];
-        let chunk = merged_chunk(alloc, words, which, chunk_or(yes, index, other), other)?;
-        merged.push(chunk)?;
-    }
-    Ok(merged)
-}
-
-/// The chunk of this number, and another where there is none.
-fn chunk_or<'a>(chunks: &'a [Rc<Names>], index: usize, other: &'a Rc<Names>) -> &'a Rc<Names>
-    ensures { rc_value result.now
-        ≡ slice_index_or (map rc_value chunks.now) index (rc_value other.now) }
-{
-    if index < chunks.len() {
-        &chunks[index]
-    } else {
-        other
-    }
-}
-
-/// For each word of two chunks that of `yes` where `which` isn't 0, and else that of `no`.
-fn merged_chunk(
-    alloc: Global,
-    words: &mut Words,
-    which: u32,
-    yes: &Rc<Names>,
-    no: &Rc<Names>,
-) -> Result<Rc<Names>, AllocError>
-    ensures length { IfOk result (λ merged. length (rc_value merged) ≡ length (rc_value no.now)) }
-    ensures merges { IfOk result (λ merged. are_words words.old ≡ true → which < length words.old
-        → are_names (length words.old) (rc_value yes.now) ≡ true
-        → are_names (length words.old) (rc_value no.now) ≡ true
-        → length (rc_value yes.now) ≡ length (rc_value no.now)
-        → Merges words.old words.new (length (rc_value no.now))
-        (holds_in words.old which) (rc_value yes.now) (rc_value no.now) (rc_value merged)) }
-{
-    if yes.as_slice() == no.as_slice() {
-        let same = no.clone()?;
-        return Ok(same);
-    }
-    let merged = words.merged(alloc, which, yes, no)?;
-    let merged = Rc::new(alloc, merged)?;
-    Ok(merged)
 }

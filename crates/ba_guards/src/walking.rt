@@ -60,7 +60,7 @@ fn guard_node(
             b.add_place(alloc, place, &offer)?;
             let fork = b.open(alloc, offer.keep)?;
             guard_nodes(alloc, arrays, b, keep.as_slice())?;
-            let sides = b.switch(fork)?;
+            let sides = b.switch(alloc, fork)?;
             take_values(arrays, b, *take, offer.values, &sides)?;
             b.join(alloc, sides)
         }
@@ -74,7 +74,7 @@ fn guard_node(
             }
             let fork = b.open(alloc, which)?;
             guard_nodes(alloc, arrays, b, yes.as_slice())?;
-            let sides = b.switch(fork)?;
+            let sides = b.switch(alloc, fork)?;
             guard_nodes(alloc, arrays, b, no.as_slice())?;
             b.join(alloc, sides)
         }
@@ -165,11 +165,11 @@ pub fn take_values(
 {
     match take {
         Take::Value { to, .. } => {
-            b.vars.set(to, word_at(&values, 0))?;
+            b.assign(to, word_at(&values, 0))?;
             Ok(())
         }
         Take::Truth { to } => {
-            b.vars.set(to, word_at(&values, 0))?;
+            b.assign(to, word_at(&values, 0))?;
             Ok(())
         }
         Take::Cell { array } => {

@@ -5,14 +5,13 @@ ghost use Rattle.ba_code.specs.Operators.{converting};
 ghost use Rattle.ba_numbers.specs.Numbers.{converted, is_in, low_word, truth};
 ghost use Rattle.ba_numbers.specs.Types.{is_promoted, shifts};
 ghost use Rattle.ba_guards.specs.Sharing.{entry};
-ghost use Rattle.ba_guards.specs.Making.{AreSides, Draws, Emits, EmitsArray, Merges, StandsAt, elements_in, holds_in, is_one, word_in};
+ghost use Rattle.ba_guards.specs.Making.{AreSides, Draws, Emits, EmitsArray, StandsAt, elements_in, holds_in, is_one, word_in};
 ghost use Rattle.ba_wordlist.specs.Facts.{are_names, are_words, is_word_value, lengths_of, shows_type};
 ghost use Rattle.ba_wordlist.specs.Meaning.{Assignment, binary_value, element_read, is_nonzero};
 ghost use Rattle.ba_wordlist.specs.declared.words.WordOp.TheVariants.{Const, Write};
 
 use crate::builder::Sides;
 use crate::expressions::Expression;
-use crate::names::Names;
 use ba_items::Items;
 use ba_numbers::numbers::{BinOp, CType, UnOp, apply, apply_one, convert};
 use ba_wordlist::words::WordOp;
@@ -249,29 +248,6 @@ impl Words {
                 Ok(word)
             }
         }
-    }
-
-    /// For each number the word of `yes` where `which` isn't 0, and else that of `no`.
-    pub fn merged(
-        &mut self,
-        alloc: Global,
-        which: u32,
-        yes: &Names,
-        no: &Names,
-    ) -> Result<Names, AllocError>
-        ensures length { IfOk result (λ merged. length merged ≡ length no.now) }
-        ensures merges { IfOk result (λ merged. are_words self.old ≡ true → which < length self.old
-            → are_names (length self.old) yes.now ≡ true → are_names (length self.old) no.now ≡ true
-            → length yes.now ≡ length no.now
-            → Merges self.old self.new (length no.now)
-            (holds_in self.old which) yes.now no.now merged) }
-    {
-        let mut merged = Names::new(alloc);
-        for index in 0..no.len() {
-            let word = self.select(which, yes.at_index(index), no.at_index(index))?;
-            merged.push(word)?;
-        }
-        Ok(merged)
     }
 
     /// The element of an array at an index.

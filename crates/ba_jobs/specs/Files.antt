@@ -1,6 +1,6 @@
 -- READING THE FILES of a job.
 
-use Rattle.std.specs.Prelude.{◌≡◌, ℕ, ◌≤◌, Option, None, Some, List, [], length}
+use Rattle.std.specs.Prelude.{◌≡◌, ℕ, ◌≤◌, ◌+◌, Option, None, Some, List, [], length}
 use Rattle.ba_answers.specs.Limits.{limit}
 use Rattle.ba_answers.specs.declared.file.File.{File}
 use Rattle.ba_answers.specs.declared.file.File.TheVariants as file
@@ -20,6 +20,10 @@ pub record IsReadFile (name : Word) (text : List ℕ) (old new : Outside) : Type
   pub whole : IsReadWhole name text old new
   pub short : length text ≤ limit
   pub only : OnlyReads old new
+
+-- no more bytes are given than so many
+abbrev pub GivesAtMost : ℕ → Outside → Outside → Type 0
+GivesAtMost most before after = after.given ≤ before.given + most
 
 -- where no weights are named, none are read, and their text is empty
 abbrev pub IsReadIfNamed : Option Word → List ℕ → Outside → Outside → Type 0

@@ -3,7 +3,7 @@
 ghost use Rattle.std.specs.Prelude.{◌≡◌, ◌+◌, ◌*◌, ◌≤◌, IfOk, IfErr};
 ghost use Rattle.ba_world.specs.Read.{piece_size};
 ghost use Rattle.ba_world.specs.World.{OnlyReads};
-ghost use Rattle.ba_jobs.specs.Files.{AreRead, IsReadFile, IsReadIfNamed, IsUnread, IsUnreadIfNamed, StopsAt};
+ghost use Rattle.ba_jobs.specs.Files.{AreRead, GivesAtMost, IsReadFile, IsReadIfNamed, IsUnread, IsUnreadIfNamed, StopsAt};
 ghost use Rattle.ba_answers.specs.Limits.{limit};
 
 use crate::jobs::Job;
@@ -48,8 +48,7 @@ fn read_file<W: World>(
         IsReadFile name.now text (W.outside world.old) (W.outside world.new)) }
     ensures err { IfErr result (λ unread. (unread.file ≡ file)
         × IsUnread name.now unread.error (W.outside world.old) (W.outside world.new)) }
-    ensures bounded { (W.outside world.new).given
-        ≤ (W.outside world.old).given + (limit + piece_size) }
+    ensures bounded { GivesAtMost (limit + piece_size) (W.outside world.old) (W.outside world.new) }
     ensures stays { OnlyReads (W.outside world.old) (W.outside world.new) }
 {
     match read_whole(alloc, world, name.as_str(), LIMIT) {
@@ -68,8 +67,7 @@ fn read_if_named<W: World>(
         IsReadIfNamed name.now text (W.outside world.old) (W.outside world.new)) }
     ensures err { IfErr result (λ unread. (unread.file ≡ File.Weights)
         × IsUnreadIfNamed name.now unread.error (W.outside world.old) (W.outside world.new)) }
-    ensures bounded { (W.outside world.new).given
-        ≤ (W.outside world.old).given + (limit + piece_size) }
+    ensures bounded { GivesAtMost (limit + piece_size) (W.outside world.old) (W.outside world.new) }
     ensures stays { OnlyReads (W.outside world.old) (W.outside world.new) }
 {
     match name {
@@ -85,8 +83,8 @@ pub fn read_texts<W: World>(alloc: Global, world: &mut W, job: &Job) -> Result<T
         AreRead job.now texts (W.outside world.old) (W.outside world.new)) }
     ensures err { IfErr result (λ unread. StopsAt unread.file unread.error job.now
         (W.outside world.old) (W.outside world.new)) }
-    ensures bounded { (W.outside world.new).given
-        ≤ (W.outside world.old).given + 3 * (limit + piece_size) }
+    ensures bounded { GivesAtMost (3 * (limit + piece_size))
+        (W.outside world.old) (W.outside world.new) }
     ensures stays { OnlyReads (W.outside world.old) (W.outside world.new) }
 {
     let program = read_file(alloc, world, File::Program, &job.program)?;

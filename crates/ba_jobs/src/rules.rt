@@ -1,12 +1,9 @@
 //! Rules of a search: those that a caller of the program may choose, and those of the program
 //! itself.
 
-ghost use Rattle.std.specs.Prelude.{◌≡◌, ◌↔◌, ◌⊎◌, ℕ, ◌+◌, ◌*◌, ◌≤◌, ◌<◌, ◌^◌, IsTrue, true};
+ghost use Rattle.std.specs.Prelude.{◌≡◌, ◌↔◌, ◌⊎◌, ℕ, ◌+◌, ◌*◌, ◌≤◌, ◌<◌, ◌^◌, IsTrue};
 ghost use Rattle.ba_search.specs.Rules.{IsKeepRule, IsRestartRule};
 ghost use Rattle.ba_jobs.specs.Luby.{IsLubyTerm};
-ghost use Rattle.ba_jobs.specs.Rules.{AreJobRules};
-
-use ba_search::SearchRules;
 
 /// When a search restarts, and which learnt clauses it keeps. What the program promises holds for
 /// all such rules; how soon a search ends depends on them.
@@ -34,50 +31,6 @@ impl<L: Fn(u64) -> u64, G: Fn(u64) -> u64, K: Fn(u64, u64) -> bool> Rules<L, G, 
         ensures keep { result.keep ≡ keep }
     {
         Rules { luby, steady, keep }
-    }
-}
-
-/// The rules of one search: it restarts at a steady pace, or by Luby's sequence.
-#[derive(Drop)]
-pub struct JobRules<L, G, K> {
-    pub rules: Rules<L, G, K>,
-    pub steady: bool,
-}
-
-impl<L, G, K> SearchRules for JobRules<L, G, K>
-where
-    L: Fn(u64) -> u64,
-    G: Fn(u64) -> u64,
-    K: Fn(u64, u64) -> bool,
-{
-    ghost are_rules = { λ r. AreJobRules r.steady (L.pre r.rules.luby) (L.post r.rules.luby)
-        (G.pre r.rules.steady) (G.post r.rules.steady) (K.pre r.rules.keep) (K.post r.rules.keep) };
-
-    ghost keeping = { λ r. K.post r.rules.keep };
-
-    fn restart(&self, restarts: u64) -> u64
-        requires { AreJobRules self.now.steady (L.pre self.now.rules.luby)
-            (L.post self.now.rules.luby) (G.pre self.now.rules.steady)
-            (G.post self.now.rules.steady) (K.pre self.now.rules.keep)
-            (K.post self.now.rules.keep) }
-        ensures { 1 ≤ result }
-    {
-        if self.steady {
-            (self.rules.steady)(restarts)
-        } else {
-            (self.rules.luby)(restarts)
-        }
-    }
-
-    fn keeps(&self, width: u64, age: u64) -> bool
-        requires { AreJobRules self.now.steady (L.pre self.now.rules.luby)
-            (L.post self.now.rules.luby) (G.pre self.now.rules.steady)
-            (G.post self.now.rules.steady) (K.pre self.now.rules.keep)
-            (K.post self.now.rules.keep) }
-        ensures rule { K.post self.now.rules.keep width age result }
-        ensures narrow { width ≤ 2 → result ≡ true }
-    {
-        (self.rules.keep)(width, age)
     }
 }
 

@@ -147,16 +147,20 @@ pub left : (weights : WeightList) (good same : Judge) (begun : Basis) (s last : 
 left weights good same begun s last conflicts most old mid new faithful judges starts begins stay over has =
     let judged : LeavesBetween good s mid.logs last new.logs =
     subst (λ (g : Judge). LeavesBetween g s mid.logs last new.logs) judges has in
-    let started : LeavesBetween good (first_state begun.formula begun.softs conflicts most) mid.logs last new.logs =
+    let started : LeavesBetween good (first_state begun.formula begun.softs conflicts most) mid.logs last
+    new.logs =
     subst (λ (t : State). LeavesBetween good t mid.logs last new.logs) starts judged in
     leaves_steps begun last faithful (over ∙ begins)
-    (subst (λ (logs : Logs). LeavesBetween good (first_state begun.formula begun.softs conflicts most) logs last
+    (subst (λ (logs : Logs). LeavesBetween good (first_state begun.formula begun.softs conflicts most) logs
+    last
     new.logs)
     stay started)
 
 -- the same of equal judges, states and logs
-pub leaves-same : (good better : Judge) (s t last end : State) (old first new final : Logs) → good ≡ better → s ≡ t
-    → old ≡ first → last ≡ end → new ≡ final → LeavesBetween good s old last new → LeavesBetween better t first end final
+pub leaves-same : (good better : Judge) (s t last end : State) (old first new final : Logs) → good ≡ better →
+    s ≡ t
+    → old ≡ first → last ≡ end → new ≡ final → LeavesBetween good s old last new → LeavesBetween better t
+    first end final
 leaves-same good better s t last end old first new final judges starts begins ends stops has =
     subst (λ (logs : Logs). LeavesBetween better t first end logs) stops
     (subst (λ (e : State). LeavesBetween better t first e new) ends
@@ -164,7 +168,6 @@ leaves-same good better s t last end old first new final judges starts begins en
     (subst (λ (u : State). LeavesBetween better u old last new) starts
     (subst (λ (g : Judge). LeavesBetween g s old last new) judges has))))
 
--- A COUNT that rose beside one of no faults
-pub rose-second : (a b c d : ℕ) → a ≡ 0 + c → b ≡ 0 + d → Rose a b → Rose c d
-rose-second a b c d first second (inl rose) = inl (omega (arith, first, second, rose))
-rose-second a b c d first second (inr most) = inr (omega (arith, second, most))
+-- A COUNT that rose, by equal counts
+pub rose-same : (a b c d : ℕ) → a ≡ c → b ≡ d → Rose a b → Rose c d
+rose-same a b c d first second rose = subst (λ (n : ℕ). Rose n d) first (subst (Rose a) second rose)

@@ -7,9 +7,10 @@ use Rattle.ba_encode.specs.declared.encoded.Encoded.{Encoded}
 use Rattle.ba_learn.specs.Live.{AreLive}
 use Rattle.ba_search.specs.Searching.{Searching}
 
--- the search answers no error, and has the live clauses of the checker, which is in the first state, over the formula with
--- the soft literals of its groups, and lists at most so many sets
-pub record IsStarted {R : Type 0} (encoded : Encoded) (sets : ℕ) (search : Searching R) (checker : State) : Type 0 where
+-- the search answers no error, and has the live clauses of the checker, which is in the first state, over the
+-- formula with the soft literals of its groups, and lists at most so many sets
+pub record IsStarted {R : Type 0} (encoded : Encoded) (sets : ℕ) (search : Searching R) (checker : State) :
+    Type 0 where
   pub working : search.failure ≡ None
   pub same : AreLive search.clauses (clause_at checker.clauses)
   pub starts : checker ≡ first_state encoded.formula (softs_of encoded.groups) checker.budget sets

@@ -26,7 +26,8 @@ pub record Hands (d : Derivation) (old new : Told) : Type 0 where
   pub over : new.over ≡ with_told d.begun old.over
   pub logs : new.logs ≡ with_steps d.steps old.logs
 
--- the problem that it is about, where runs are good as a judge says, and so many conflicts and sets are allowed
+-- the problem that it is about, where runs are good as a judge says, and so many conflicts and sets are
+-- allowed
 abbrev pub problem_of : Derivation → Judge → ℕ → ℕ → Problem
 problem_of d good conflicts most = record {
   formula = d.begun.formula;
@@ -36,7 +37,8 @@ problem_of d good conflicts most = record {
   most_sets = most;
 }
 
--- these are all least sets, each once and in order, of this weight, with good runs, and no more than may be listed
+-- these are all least sets, each once and in order, of this weight, with good runs, and no more than may be
+-- listed
 pub record AreLocated (weights : WeightList) (good : Judge) (most weight : ℕ) (sets : List FoundSet) : Type
     0 where
   pub least : AreLeast weights good (sets_of sets)
@@ -45,8 +47,9 @@ pub record AreLocated (weights : WeightList) (good : Judge) (most weight : ℕ) 
   pub runs : All (IsGood good) sets
   pub few : length sets ≤ most
 
--- A VERDICT IS TRUE of which runs are good, where it is derived by these steps: all least sets; that no set is least; one more
--- least sets than may be listed, with good runs; or that the steps hold exactly as many conflicts as are allowed
+-- A VERDICT IS TRUE of which runs are good, where it is derived by these steps: all least sets; that no set
+-- is least; one more least sets than may be listed, with good runs; or that the steps hold exactly as many
+-- conflicts as are allowed
 abbrev pub IsVerdict : WeightList → Judge → ℕ → ℕ → List CertStep → Verdict → Type 0
 IsVerdict weights good conflicts most steps (Located weight sets) = AreLocated weights good most weight sets
 IsVerdict weights good conflicts most steps NoRepair = AreLeast weights good []
@@ -54,8 +57,8 @@ IsVerdict weights good conflicts most steps (TooMany weight sets) =
     AreTooMany weights good weight most (sets_of sets) × All (IsGood good) sets
 IsVerdict weights good conflicts most steps Spent = conflicts_in steps ≡ conflicts
 
--- A DERIVATION SHOWS A VERDICT: its formula encodes faithfully which runs are good, each clause that its steps learn is new to
--- propagation where it is learnt, and the steps say the verdict, which is true
+-- A DERIVATION SHOWS A VERDICT: its formula encodes faithfully which runs are good, each clause that its
+-- steps learn is new to propagation where it is learnt, and the steps say the verdict, which is true
 pub record Shows (weights : WeightList) (good : Judge) (conflicts most : ℕ) (d : Derivation)
     (verdict : Verdict) :
     Type 0 where
@@ -72,9 +75,9 @@ pub record Finds (weights : WeightList) (good : Judge) (conflicts most : ℕ) (o
   pub hands : Hands derivation old new
   pub shows : Shows weights good conflicts most derivation verdict
 
--- WHAT IS LEFT OF A DERIVATION, also after an error. Nothing was begun; or the formula was, and may be told; or it is told, and
--- steps over it were handed on that are allowed one after the other, or one more was tried, which some of the logs may hold.
--- The formula encodes faithfully which runs are good.
+-- WHAT IS LEFT OF A DERIVATION, also after an error. Nothing was begun; or the formula was, and may be told;
+-- or it is told, and steps over it were handed on that are allowed one after the other, or one more was
+-- tried, which some of the logs may hold. The formula encodes faithfully which runs are good.
 pub data LeavesDerivation (weights : WeightList) (good : Judge) (conflicts most : ℕ) (old new : Told) : Type
     0 where
   leaves_nothing : new.over ≡ old.over → new.logs ≡ old.logs →

@@ -4,6 +4,7 @@
 //! step of the search and has each set's run judged by the interpreter.
 #![tactic(auto)]
 
+mod lent;
 mod search;
 
 pub use search::localise;

@@ -1,19 +1,20 @@
 //! The search for the least sets of a program.
 
-ghost use Rattle.std.specs.Prelude.{◌≡◌, ◌≢◌, true, Err, IfOk};
+ghost use Rattle.std.specs.Prelude.{◌≡◌, ◌≢◌, true, IfOk};
 ghost use Rattle.ba_encode.specs.Softs.{softs_of};
 ghost use Rattle.ba_enum.specs.Enumerating.{Enumerates};
 ghost use Rattle.ba_enum.specs.Leading.{LeavesBetween};
 ghost use Rattle.ba_enum.specs.Problems.{IsReadable, problem_in};
 ghost use Rattle.ba_localise.specs.Starting.{IsStarted};
 ghost use Rattle.ba_localise.specs.Verdicts.{Finds, LeavesDerivation};
-ghost use Rattle.ba_search.specs.declared.search.SearchError.{SearchError};
-ghost use Rattle.ba_steps.specs.Sinks.{HasFault, Outlasts};
+ghost use Rattle.ba_search.specs.Searching.{IsCaused};
+ghost use Rattle.ba_steps.specs.Sinks.{Outlasts};
 ghost use Rattle.ba_checker.specs.Facts.{IsStart};
 ghost use Rattle.ba_tree.specs.Least.{AreWeightsOf, judge_of};
 ghost use Rattle.ba_tree.specs.Run.{are_bounds, fits, plain_run};
 ghost use Rattle.ba_tree.specs.declared.run.Outcome.{Outcome};
 
+use crate::lent::Lent;
 use ba_checker::{Checked, Checker};
 use ba_derivations::Verdict;
 use ba_encode::{Encoded, softs_of};
@@ -21,7 +22,7 @@ use ba_enum::all_sets;
 use ba_formula::formula_of;
 use ba_judge::ProgramJudge;
 use ba_search::{Search, SearchError, SearchRules};
-use ba_steps::{Both, NoSink, RunJudge, StepSink};
+use ba_steps::{RunJudge, StepSink};
 use ba_tree::run::{Bounds, Input, Weights};
 use ba_tree::tree::Program;
 use std::alloc::Global;
@@ -56,8 +57,7 @@ pub fn localise<D: StepSink + Drop, R: SearchRules + Drop>(
         conflicts sets (D.told steps.old) (D.told steps.new)) }
     ensures leaves { LeavesDerivation weights.now.of (judge_of program.now input.now bounds)
         conflicts sets (D.told steps.old) (D.told steps.new) }
-    ensures cause { result ≡ Err SearchError.SinkFailed
-        → HasFault (D.told steps.old) (D.told steps.new) }
+    ensures cause { IsCaused result (D.told steps.old) (D.told steps.new) }
     ensures outlasts { Outlasts (D.told steps.old) (D.told steps.new) }
 {
     let encoded = formula_of(alloc, program, input, bounds, weights)?;
@@ -96,17 +96,12 @@ where
     ensures leaves { LeavesBetween (J.accepts judge) checker (D.told steps.old).logs result.1
         (D.told steps.new).logs }
     ensures over_stays { (D.told steps.new).over ≡ (D.told steps.old).over }
-    ensures cause { result.0 ≡ Err SearchError.SinkFailed
-        → HasFault (D.told steps.old) (D.told steps.new) }
+    ensures cause { IsCaused result.0 (D.told steps.old) (D.told steps.new) }
     ensures outlasts { Outlasts (D.told steps.old) (D.told steps.new) }
 {
-    let sink = Both {
-        first: NoSink,
-        second: steps,
-    };
-    let mut checked = Checked::new(checker, judge, sink);
+    let mut checked = Checked::new(checker, judge, Lent { sink: steps });
     let answer = all_sets(alloc, encoded, sets, search, &mut checked);
     // The sink is taken back out, so that it's known what it has become.
-    let (checker, Both { second: _steps, .. }) = checked.finish();
+    let (checker, Lent { sink: _sink }) = checked.finish();
     (answer, checker)
 }

@@ -4,3 +4,4 @@ pub mod Rows
 pub mod Bounds
 pub mod Steps
 pub mod Values
+pub mod Defined

@@ -5,8 +5,8 @@ ghost use Rattle.std.specs.Bool.{OnTrue};
 ghost use Rattle.ba_numbers.specs.declared.numbers.BinOp.{BinOp};
 ghost use Rattle.ba_nodes.specs.declared.Bit.{Bit};
 ghost use Rattle.ba_nodes.specs.declared.Node.{Node};
-ghost use Rattle.ba_nodes.specs.Gates.{bool_xor, truth, IsBitOf, gates_in, Extends, HasValue};
-ghost use Rattle.ba_words.specs.Words.{digit, spelled, number_of, bit_at, AreBitsOf, HasNumber, IsValueOf};
+ghost use Rattle.ba_nodes.specs.Gates.{truth, IsBitOf, HasValue, Grows, MakesBit};
+ghost use Rattle.ba_words.specs.Words.{digit, number_of, bit_at, AreBitsOf, AreWords, HasNumber, MakesWord, Computes};
 ghost use Rattle.ba_muldiv.specs.Division.{negated_where, long_quotient, quotient_of, remainder_of, IsValueWhereDefined, IsBounded, AreOnesFrom, high_number};
 
 use crate::powers::{constant_power, quotient_by_power, remainder_by_power};
@@ -17,15 +17,10 @@ use std::alloc::AllocError;
 /// The quotient of two words, rounded toward zero (C90 6.3.5), by at most 14,500 gates. Where the divisor is zero it
 /// is that of magnitude 2^32 - 1 with the signs' product.
 pub fn div(nodes: &mut Nodes, a: &Word, b: &Word, signed: bool) -> Result<Word, AllocError>
-    requires first { AreBitsOf nodes.old a.now }
-    requires second { AreBitsOf nodes.old b.now }
-    ensures number { IfOk result (λ word.
-        HasNumber nodes.new word (λ free.
-        quotient_of signed (number_of free nodes.old a.now) (number_of free nodes.old b.now))) }
+    requires { AreWords nodes.old a.now b.now }
+    ensures makes { Computes nodes.old a.now b.now nodes.new result 14500 (quotient_of signed) }
     ensures value { IfOk result (λ word.
         IsValueWhereDefined BinOp.Div signed nodes.old a.now b.now nodes.new word) }
-    ensures extends { Extends nodes.old nodes.new }
-    ensures count { gates_in nodes.new ≤ gates_in nodes.old + 14500 }
 {
     match constant_power(b, signed) {
         Some(power) => quotient_by_power(nodes, a, power),
@@ -40,13 +35,8 @@ fn quotient_by_magnitudes(
     b: &Word,
     signed: bool,
 ) -> Result<Word, AllocError>
-    requires first { AreBitsOf nodes.old a.now }
-    requires second { AreBitsOf nodes.old b.now }
-    ensures number { IfOk result (λ word.
-        HasNumber nodes.new word (λ free.
-        quotient_of signed (number_of free nodes.old a.now) (number_of free nodes.old b.now))) }
-    ensures extends { Extends nodes.old nodes.new }
-    ensures count { gates_in nodes.new ≤ gates_in nodes.old + 14500 }
+    requires { AreWords nodes.old a.now b.now }
+    ensures { Computes nodes.old a.now b.now nodes.new result 14500 (quotient_of signed) }
 {
     let a_sign = sign_of(a, signed);
     let b_sign = sign_of(b, signed);
@@ -60,15 +50,10 @@ fn quotient_by_magnitudes(
 /// The remainder of two words, with the sign of the first (C90 6.3.5), by at most 14,500 gates. Where the divisor is
 /// zero it is the dividend.
 pub fn rem(nodes: &mut Nodes, a: &Word, b: &Word, signed: bool) -> Result<Word, AllocError>
-    requires first { AreBitsOf nodes.old a.now }
-    requires second { AreBitsOf nodes.old b.now }
-    ensures number { IfOk result (λ word.
-        HasNumber nodes.new word (λ free.
-        remainder_of signed (number_of free nodes.old a.now) (number_of free nodes.old b.now))) }
+    requires { AreWords nodes.old a.now b.now }
+    ensures makes { Computes nodes.old a.now b.now nodes.new result 14500 (remainder_of signed) }
     ensures value { IfOk result (λ word.
         IsValueWhereDefined BinOp.Rem signed nodes.old a.now b.now nodes.new word) }
-    ensures extends { Extends nodes.old nodes.new }
-    ensures count { gates_in nodes.new ≤ gates_in nodes.old + 14500 }
 {
     match constant_power(b, signed) {
         Some(power) => remainder_by_power(nodes, a, power),
@@ -83,13 +68,8 @@ fn remainder_by_magnitudes(
     b: &Word,
     signed: bool,
 ) -> Result<Word, AllocError>
-    requires first { AreBitsOf nodes.old a.now }
-    requires second { AreBitsOf nodes.old b.now }
-    ensures number { IfOk result (λ word.
-        HasNumber nodes.new word (λ free.
-        remainder_of signed (number_of free nodes.old a.now) (number_of free nodes.old b.now))) }
-    ensures extends { Extends nodes.old nodes.new }
-    ensures count { gates_in nodes.new ≤ gates_in nodes.old + 14500 }
+    requires { AreWords nodes.old a.now b.now }
+    ensures { Computes nodes.old a.now b.now nodes.new result 14500 (remainder_of signed) }
 {
     let sign = sign_of(a, signed);
     let other_sign = sign_of(b, signed);
@@ -103,11 +83,8 @@ fn remainder_by_magnitudes(
 pub(crate) fn negated_where(nodes: &mut Nodes, negative: Bit, a: &Word) -> Result<Word, AllocError>
     requires first { IsBitOf nodes.old negative }
     requires second { AreBitsOf nodes.old a.now }
-    ensures number { IfOk result (λ word.
-        HasNumber nodes.new word (λ free.
-        negated_where (truth free nodes.old negative) (number_of free nodes.old a.now))) }
-    ensures extends { Extends nodes.old nodes.new }
-    ensures count { gates_in nodes.new ≤ gates_in nodes.old + 189 }
+    ensures { MakesWord nodes.old nodes.new result 189
+        (λ free. negated_where (truth free nodes.old negative) (number_of free nodes.old a.now)) }
 {
     let mut word = *a;
     let mut turned = Nodes::constant(false);
@@ -121,14 +98,9 @@ pub(crate) fn negated_where(nodes: &mut Nodes, negative: Bit, a: &Word) -> Resul
 
 /// The quotient of two unsigned words.
 fn long_quotient(nodes: &mut Nodes, dividend: &Word, divisor: &Word) -> Result<Word, AllocError>
-    requires first { AreBitsOf nodes.old dividend.now }
-    requires second { AreBitsOf nodes.old divisor.now }
-    ensures number { IfOk result (λ word.
-        HasNumber nodes.new word (λ free.
-        long_quotient 32 (number_of free nodes.old dividend.now)
-        (number_of free nodes.old divisor.now))) }
-    ensures extends { Extends nodes.old nodes.new }
-    ensures count { gates_in nodes.new ≤ gates_in nodes.old + 32 + 421 * 32 }
+    requires { AreWords nodes.old dividend.now divisor.now }
+    ensures { Computes nodes.old dividend.now divisor.now nodes.new result (32 + 421 * 32)
+        (long_quotient 32) }
 {
     let above = ones_from(nodes, divisor)?;
     quotient_by_steps(nodes, dividend, divisor, &above)
@@ -141,15 +113,10 @@ fn quotient_by_steps(
     divisor: &Word,
     above: &Word,
 ) -> Result<Word, AllocError>
-    requires first { AreBitsOf nodes.old dividend.now }
-    requires second { AreBitsOf nodes.old divisor.now }
+    requires words { AreWords nodes.old dividend.now divisor.now }
     requires above { AreOnesFrom nodes.old divisor.now above.now }
-    ensures number { IfOk result (λ word.
-        HasNumber nodes.new word (λ free.
-        long_quotient 32 (number_of free nodes.old dividend.now)
-        (number_of free nodes.old divisor.now))) }
-    ensures extends { Extends nodes.old nodes.new }
-    ensures count { gates_in nodes.new ≤ gates_in nodes.old + 421 * 32 }
+    ensures { Computes nodes.old dividend.now divisor.now nodes.new result (421 * 32)
+        (long_quotient 32) }
 {
     let (quotient, rest, bounds) = upper_steps(nodes, dividend, divisor, above)?;
     let last = brought_down(&rest, dividend[0]);
@@ -161,13 +128,9 @@ fn quotient_by_steps(
 
 /// The remainder of two unsigned words.
 fn long_remainder(nodes: &mut Nodes, dividend: &Word, divisor: &Word) -> Result<Word, AllocError>
-    requires first { AreBitsOf nodes.old dividend.now }
-    requires second { AreBitsOf nodes.old divisor.now }
-    ensures number { IfOk result (λ word.
-        HasNumber nodes.new word (λ free.
-        number_of free nodes.old dividend.now % number_of free nodes.old divisor.now)) }
-    ensures extends { Extends nodes.old nodes.new }
-    ensures count { gates_in nodes.new ≤ gates_in nodes.old + 32 + 421 * 32 }
+    requires { AreWords nodes.old dividend.now divisor.now }
+    ensures { Computes nodes.old dividend.now divisor.now nodes.new result (32 + 421 * 32)
+        (λ m n. m % n) }
 {
     let above = ones_from(nodes, divisor)?;
     remainder_by_steps(nodes, dividend, divisor, &above)
@@ -180,14 +143,10 @@ fn remainder_by_steps(
     divisor: &Word,
     above: &Word,
 ) -> Result<Word, AllocError>
-    requires first { AreBitsOf nodes.old dividend.now }
-    requires second { AreBitsOf nodes.old divisor.now }
+    requires words { AreWords nodes.old dividend.now divisor.now }
     requires above { AreOnesFrom nodes.old divisor.now above.now }
-    ensures number { IfOk result (λ word.
-        HasNumber nodes.new word (λ free.
-        number_of free nodes.old dividend.now % number_of free nodes.old divisor.now)) }
-    ensures extends { Extends nodes.old nodes.new }
-    ensures count { gates_in nodes.new ≤ gates_in nodes.old + 421 * 32 }
+    ensures { Computes nodes.old dividend.now divisor.now nodes.new result (421 * 32)
+        (λ m n. m % n) }
 {
     let (_, rest, bounds) = upper_steps(nodes, dividend, divisor, above)?;
     let last = brought_down(&rest, dividend[0]);
@@ -206,8 +165,7 @@ fn upper_steps(
     divisor: &Word,
     above: &Word,
 ) -> Result<(Word, Word, Word), AllocError>
-    requires first { AreBitsOf nodes.old dividend.now }
-    requires second { AreBitsOf nodes.old divisor.now }
+    requires words { AreWords nodes.old dividend.now divisor.now }
     requires above { AreOnesFrom nodes.old divisor.now above.now }
     ensures quotient { IfOk result (λ r.
         HasNumber nodes.new r.0 (λ free.
@@ -220,8 +178,7 @@ fn upper_steps(
     ensures bits { IfOk result (λ r. AreBitsOf nodes.new r.2) }
     ensures bounds { IfOk result (λ r. (free : ℕ → Bool)
         → IsBounded free nodes.new r.2 (number_of free nodes.new r.1)) }
-    ensures extends { Extends nodes.old nodes.new }
-    ensures count { gates_in nodes.new ≤ gates_in nodes.old + 421 * 31 }
+    ensures grows { Grows nodes.old nodes.new (421 * 31) }
 {
     let known = known_width(divisor);
     let zero = [Nodes::constant(false); 32];
@@ -250,8 +207,7 @@ fn next_bounds(nodes: &mut Nodes, bounds: &Word, bit: Bit) -> Result<Word, Alloc
     ensures more { IfOk result (λ word. (free : ℕ → Bool) (n : ℕ)
         → IsBounded free nodes.old bounds.now n
         → IsBounded free nodes.new word (2 * n + digit (truth free nodes.old bit))) }
-    ensures extends { Extends nodes.old nodes.new }
-    ensures count { gates_in nodes.new ≤ gates_in nodes.old + 1 }
+    ensures grows { Grows nodes.old nodes.new 1 }
 {
     let some = nodes.or(bounds[0], bit)?;
     Ok(brought_down(bounds, some))
@@ -267,8 +223,7 @@ fn bounded_step(
     above: &Word,
     known: usize,
 ) -> Result<(Bit, Word), AllocError>
-    requires first { AreBitsOf nodes.old rest.now }
-    requires second { AreBitsOf nodes.old divisor.now }
+    requires words { AreWords nodes.old rest.now divisor.now }
     requires third { AreBitsOf nodes.old bounds.now }
     requires above { AreOnesFrom nodes.old divisor.now above.now }
     requires bounds { (free : ℕ → Bool)
@@ -284,8 +239,7 @@ fn bounded_step(
         if nat_le (number_of free nodes.old divisor.now) (number_of free nodes.old rest.now)
         then number_of free nodes.old rest.now - number_of free nodes.old divisor.now
         else number_of free nodes.old rest.now)) }
-    ensures extends { Extends nodes.old nodes.new }
-    ensures count { gates_in nodes.new ≤ gates_in nodes.old + 420 }
+    ensures grows { Grows nodes.old nodes.new 420 }
 {
     let width = width_of(rest);
     let wider = bit_at(above, width);
@@ -308,10 +262,7 @@ fn fits_into_nonzero(
     requires third { IsBitOf nodes.old divides }
     requires none { (free : ℕ → Bool) → truth free nodes.old some ≡ false
         → truth free nodes.old fits ≡ true → truth free nodes.old divides ≡ false }
-    ensures value { IfOk result (λ bit.
-        HasValue nodes.new bit (λ free. truth free nodes.old fits)) }
-    ensures extends { Extends nodes.old nodes.new }
-    ensures count { gates_in nodes.new ≤ gates_in nodes.old + 2 }
+    ensures { MakesBit nodes.old nodes.new result 2 (λ free. truth free nodes.old fits) }
 {
     let possible = nodes.or(some, Nodes::not(divides))?;
     nodes.and(fits, possible)
@@ -319,14 +270,10 @@ fn fits_into_nonzero(
 
 /// The word again, each place of which is false by unit propagation where its bound is.
 fn bounded(nodes: &mut Nodes, word: &Word, bounds: &Word) -> Result<Word, AllocError>
-    requires first { AreBitsOf nodes.old word.now }
-    requires second { AreBitsOf nodes.old bounds.now }
+    requires words { AreWords nodes.old word.now bounds.now }
     requires small { (free : ℕ → Bool)
         → IsBounded free nodes.old bounds.now (number_of free nodes.old word.now) }
-    ensures number { IfOk result (λ out.
-        HasNumber nodes.new out (λ free. number_of free nodes.old word.now)) }
-    ensures extends { Extends nodes.old nodes.new }
-    ensures count { gates_in nodes.new ≤ gates_in nodes.old + 32 }
+    ensures { MakesWord nodes.old nodes.new result 32 (λ free. number_of free nodes.old word.now) }
 {
     let mut out = *word;
     for place in 0..32 {
@@ -347,8 +294,7 @@ fn step(
     width: usize,
     known: usize,
 ) -> Result<(Bit, Word), AllocError>
-    requires first { AreBitsOf nodes.old rest.now }
-    requires second { AreBitsOf nodes.old divisor.now }
+    requires words { AreWords nodes.old rest.now divisor.now }
     requires wider { HasValue nodes.old wider
         (λ free. nat_le (2 ^ width) (number_of free nodes.old divisor.now)) }
     requires width { width ≤ 32 }
@@ -364,8 +310,7 @@ fn step(
         if nat_le (number_of free nodes.old divisor.now) (number_of free nodes.old rest.now)
         then number_of free nodes.old rest.now - number_of free nodes.old divisor.now
         else number_of free nodes.old rest.now)) }
-    ensures extends { Extends nodes.old nodes.new }
-    ensures count { gates_in nodes.new ≤ gates_in nodes.old + 386 }
+    ensures grows { Grows nodes.old nodes.new 386 }
 {
     let no = Nodes::constant(false);
     if is_surely_wider(divisor, width) {
@@ -456,8 +401,7 @@ fn is_surely_wider(word: &Word, width: usize) -> bool
 fn ones_from(nodes: &mut Nodes, word: &Word) -> Result<Word, AllocError>
     requires { AreBitsOf nodes.old word.now }
     ensures value { IfOk result (λ above. AreOnesFrom nodes.new word.now above) }
-    ensures extends { Extends nodes.old nodes.new }
-    ensures count { gates_in nodes.new ≤ gates_in nodes.old + 32 }
+    ensures grows { Grows nodes.old nodes.new 32 }
 {
     let mut some = Nodes::constant(false);
     let mut above = [some; 32];

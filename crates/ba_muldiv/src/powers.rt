@@ -3,8 +3,8 @@
 ghost use Rattle.std.specs.Prelude.{◌≡◌, ℕ, ◌+◌, ◌/◌, ◌<◌, ◌≤◌, ◌^◌, Bool, true, false, List, length, IfOk, IfSome, OnSome};
 ghost use Rattle.ba_nodes.specs.declared.Bit.{Bit};
 ghost use Rattle.ba_nodes.specs.declared.Node.{Node};
-ghost use Rattle.ba_nodes.specs.Gates.{truth, IsBitOf, gates_in, Extends, HasValue};
-ghost use Rattle.ba_words.specs.Words.{number_of, AreBitsOf, HasNumber};
+ghost use Rattle.ba_nodes.specs.Gates.{truth, IsBitOf, MakesBit};
+ghost use Rattle.ba_words.specs.Words.{number_of, AreBitsOf, MakesWord};
 ghost use Rattle.ba_muldiv.specs.Division.{signed_power, quotient_of, remainder_of, has_negative_remainder, shifted_sum};
 
 use crate::constants::constant_of;
@@ -69,11 +69,9 @@ pub(crate) fn quotient_by_power(
     power: SignedPower,
 ) -> Result<Word, AllocError>
     requires { AreBitsOf nodes.old a.now }
-    ensures number { IfOk result (λ word. HasNumber nodes.new word (λ free.
-        quotient_of true (number_of free nodes.old a.now)
-        (signed_power power.negative power.exponent))) }
-    ensures extends { Extends nodes.old nodes.new }
-    ensures count { gates_in nodes.new ≤ gates_in nodes.old + 321 }
+    ensures { MakesWord nodes.old nodes.new result 321
+        (λ free. quotient_of true (number_of free nodes.old a.now)
+        (signed_power power.negative power.exponent)) }
 {
     let below = has_negative_remainder(nodes, a, power.exponent)?;
     if power.negative {
@@ -91,11 +89,9 @@ pub(crate) fn remainder_by_power(
     power: SignedPower,
 ) -> Result<Word, AllocError>
     requires { AreBitsOf nodes.old a.now }
-    ensures number { IfOk result (λ word. HasNumber nodes.new word (λ free.
-        remainder_of true (number_of free nodes.old a.now)
-        (signed_power power.negative power.exponent))) }
-    ensures extends { Extends nodes.old nodes.new }
-    ensures count { gates_in nodes.new ≤ gates_in nodes.old + 32 }
+    ensures { MakesWord nodes.old nodes.new result 32
+        (λ free. remainder_of true (number_of free nodes.old a.now)
+        (signed_power power.negative power.exponent)) }
 {
     let below = has_negative_remainder(nodes, a, power.exponent)?;
     Ok(extended(a, power.exponent, below))
@@ -106,10 +102,8 @@ pub(crate) fn remainder_by_power(
 fn has_negative_remainder(nodes: &mut Nodes, a: &Word, exponent: usize) -> Result<Bit, AllocError>
     requires few { exponent < 32 }
     requires bits { AreBitsOf nodes.old a.now }
-    ensures value { IfOk result (λ bit. HasValue nodes.new bit (λ free.
-        has_negative_remainder (number_of free nodes.old a.now) exponent)) }
-    ensures extends { Extends nodes.old nodes.new }
-    ensures count { gates_in nodes.new ≤ gates_in nodes.old + 32 }
+    ensures { MakesBit nodes.old nodes.new result 32
+        (λ free. has_negative_remainder (number_of free nodes.old a.now) exponent) }
 {
     let low = extended(a, exponent, Nodes::constant(false));
     let some = nonzero(nodes, &low)?;
@@ -121,10 +115,8 @@ fn shifted_sum(nodes: &mut Nodes, a: &Word, by: usize, bit: Bit) -> Result<Word,
     requires few { by < 32 }
     requires first { AreBitsOf nodes.old a.now }
     requires second { IsBitOf nodes.old bit }
-    ensures number { IfOk result (λ word. HasNumber nodes.new word (λ free.
-        shifted_sum (number_of free nodes.old a.now) by (truth free nodes.old bit))) }
-    ensures extends { Extends nodes.old nodes.new }
-    ensures count { gates_in nodes.new ≤ gates_in nodes.old + 289 }
+    ensures { MakesWord nodes.old nodes.new result 289
+        (λ free. shifted_sum (number_of free nodes.old a.now) by (truth free nodes.old bit)) }
 {
     let zero = [Nodes::constant(false); 32];
     let (sum, _) = add_with_carry(nodes, &upper_places(a, by), &zero, bit)?;

@@ -4,8 +4,8 @@ ghost use Rattle.std.specs.Prelude.{◌≡◌, ℕ, ◌+◌, ◌-◌, ◌*◌, �
 ghost use Rattle.ba_numbers.specs.declared.numbers.BinOp.{BinOp};
 ghost use Rattle.ba_nodes.specs.declared.Bit.{Bit};
 ghost use Rattle.ba_nodes.specs.declared.Node.{Node};
-ghost use Rattle.ba_nodes.specs.Gates.{bool_xor, truth, IsBitOf, gates_in, Extends, HasValue};
-ghost use Rattle.ba_words.specs.Words.{digit, spelled, number_of, bit_at, AreBitsOf, HasNumber, IsValueOf};
+ghost use Rattle.ba_nodes.specs.Gates.{bool_xor, truth, IsBitOf, Grows, MakesBit};
+ghost use Rattle.ba_words.specs.Words.{digit, number_of, AreBitsOf, AreWords, HasNumber, MakesWord, Computes, IsCircuit};
 ghost use Rattle.ba_muldiv.specs.Division.{multiple_of, sum_or_difference};
 
 use crate::constants::{constant_of, known_bits};
@@ -17,28 +17,17 @@ use std::alloc::AllocError;
 /// The product of two words modulo 2^32 (C90 6.3.5), by at most 5,000 gates. Where neither sign is known it is made of
 /// the magnitudes, so that small numbers take few places whatever their signs are.
 pub fn mul(nodes: &mut Nodes, a: &Word, b: &Word) -> Result<Word, AllocError>
-    requires first { AreBitsOf nodes.old a.now }
-    requires second { AreBitsOf nodes.old b.now }
-    ensures number { IfOk result (λ word.
-        HasNumber nodes.new word (λ free.
-        (number_of free nodes.old a.now * number_of free nodes.old b.now) % 2 ^ 32)) }
-    ensures value { IfOk result (λ word. (signed : Bool)
-        → IsValueOf BinOp.Mul signed nodes.old a.now b.now nodes.new word) }
-    ensures extends { Extends nodes.old nodes.new }
-    ensures count { gates_in nodes.new ≤ gates_in nodes.old + 5000 }
+    requires { AreWords nodes.old a.now b.now }
+    ensures { IsCircuit BinOp.Mul nodes.old a.now b.now nodes.new result 5000
+        (λ m n. (m * n) % 2 ^ 32) }
 {
     any_product(nodes, a, b)
 }
 
 /// The product of two words, by their magnitudes where neither sign is known.
 fn any_product(nodes: &mut Nodes, a: &Word, b: &Word) -> Result<Word, AllocError>
-    requires first { AreBitsOf nodes.old a.now }
-    requires second { AreBitsOf nodes.old b.now }
-    ensures number { IfOk result (λ word.
-        HasNumber nodes.new word (λ free.
-        (number_of free nodes.old a.now * number_of free nodes.old b.now) % 2 ^ 32)) }
-    ensures extends { Extends nodes.old nodes.new }
-    ensures count { gates_in nodes.new ≤ gates_in nodes.old + 5000 }
+    requires { AreWords nodes.old a.now b.now }
+    ensures { Computes nodes.old a.now b.now nodes.new result 5000 (λ m n. (m * n) % 2 ^ 32) }
 {
     if a[31].index != 0 && b[31].index != 0 {
         product_by_magnitudes(nodes, a, b)
@@ -49,13 +38,8 @@ fn any_product(nodes: &mut Nodes, a: &Word, b: &Word) -> Result<Word, AllocError
 
 /// The product of two words, by that of their magnitudes.
 fn product_by_magnitudes(nodes: &mut Nodes, a: &Word, b: &Word) -> Result<Word, AllocError>
-    requires first { AreBitsOf nodes.old a.now }
-    requires second { AreBitsOf nodes.old b.now }
-    ensures number { IfOk result (λ word.
-        HasNumber nodes.new word (λ free.
-        (number_of free nodes.old a.now * number_of free nodes.old b.now) % 2 ^ 32)) }
-    ensures extends { Extends nodes.old nodes.new }
-    ensures count { gates_in nodes.new ≤ gates_in nodes.old + 5000 }
+    requires { AreWords nodes.old a.now b.now }
+    ensures { Computes nodes.old a.now b.now nodes.new result 5000 (λ m n. (m * n) % 2 ^ 32) }
 {
     let first = negated_where(nodes, a[31], a)?;
     let second = negated_where(nodes, b[31], b)?;
@@ -66,13 +50,8 @@ fn product_by_magnitudes(nodes: &mut Nodes, a: &Word, b: &Word) -> Result<Word, 
 
 /// The product of two words as they are: by the digits of a constant one, if there is one.
 fn plain_product(nodes: &mut Nodes, a: &Word, b: &Word) -> Result<Word, AllocError>
-    requires first { AreBitsOf nodes.old a.now }
-    requires second { AreBitsOf nodes.old b.now }
-    ensures number { IfOk result (λ word.
-        HasNumber nodes.new word (λ free.
-        (number_of free nodes.old a.now * number_of free nodes.old b.now) % 2 ^ 32)) }
-    ensures extends { Extends nodes.old nodes.new }
-    ensures count { gates_in nodes.new ≤ gates_in nodes.old + 4752 }
+    requires { AreWords nodes.old a.now b.now }
+    ensures { Computes nodes.old a.now b.now nodes.new result 4752 (λ m n. (m * n) % 2 ^ 32) }
 {
     if let Some(value) = constant_of(b) {
         return constant_product(nodes, a, value);
@@ -86,13 +65,8 @@ fn plain_product(nodes: &mut Nodes, a: &Word, b: &Word) -> Result<Word, AllocErr
 /// The product of two words, of which that with more known bits tells by its digits which multiples of the other are
 /// summed.
 fn free_product(nodes: &mut Nodes, a: &Word, b: &Word) -> Result<Word, AllocError>
-    requires first { AreBitsOf nodes.old a.now }
-    requires second { AreBitsOf nodes.old b.now }
-    ensures number { IfOk result (λ word.
-        HasNumber nodes.new word (λ free.
-        (number_of free nodes.old a.now * number_of free nodes.old b.now) % 2 ^ 32)) }
-    ensures extends { Extends nodes.old nodes.new }
-    ensures count { gates_in nodes.new ≤ gates_in nodes.old + 4135 }
+    requires { AreWords nodes.old a.now b.now }
+    ensures { Computes nodes.old a.now b.now nodes.new result 4135 (λ m n. (m * n) % 2 ^ 32) }
 {
     if known_bits(a) > known_bits(b) {
         sum_of_multiples(nodes, b, a)
@@ -103,13 +77,8 @@ fn free_product(nodes: &mut Nodes, a: &Word, b: &Word) -> Result<Word, AllocErro
 
 /// The product of a word and a factor, by the factor's digits to base 4, from the highest down.
 fn sum_of_multiples(nodes: &mut Nodes, a: &Word, factor: &Word) -> Result<Word, AllocError>
-    requires first { AreBitsOf nodes.old a.now }
-    requires second { AreBitsOf nodes.old factor.now }
-    ensures number { IfOk result (λ word.
-        HasNumber nodes.new word (λ free.
-        (number_of free nodes.old a.now * number_of free nodes.old factor.now) % 2 ^ 32)) }
-    ensures extends { Extends nodes.old nodes.new }
-    ensures count { gates_in nodes.new ≤ gates_in nodes.old + 4135 }
+    requires { AreWords nodes.old a.now factor.now }
+    ensures { Computes nodes.old a.now factor.now nodes.new result 4135 (λ m n. (m * n) % 2 ^ 32) }
 {
     let no = Nodes::constant(false);
     let thrice = add_moved_up(nodes, a, a, no, 1)?;
@@ -133,18 +102,14 @@ fn multiple(
     width: usize,
 ) -> Result<Word, AllocError>
     requires few { width ≤ 32 }
-    requires first { AreBitsOf nodes.old a.now }
-    requires second { AreBitsOf nodes.old thrice.now }
+    requires words { AreWords nodes.old a.now thrice.now }
     requires third { IsBitOf nodes.old low }
     requires fourth { IsBitOf nodes.old high }
     requires thrice { (free : ℕ → Bool) → number_of free nodes.old thrice.now
         ≡ (3 * number_of free nodes.old a.now) % 2 ^ 32 }
-    ensures number { IfOk result (λ word.
-        HasNumber nodes.new word (λ free.
-        multiple_of (truth free nodes.old high) (truth free nodes.old low)
-        (number_of free nodes.old a.now) % 2 ^ width)) }
-    ensures extends { Extends nodes.old nodes.new }
-    ensures count { gates_in nodes.new ≤ gates_in nodes.old + 5 * width + 3 }
+    ensures { MakesWord nodes.old nodes.new result (5 * width + 3)
+        (λ free. multiple_of (truth free nodes.old high) (truth free nodes.old low)
+        (number_of free nodes.old a.now) % 2 ^ width) }
 {
     let twice = moved_up(a, 1);
     let one = nodes.and(low, Nodes::not(high))?;
@@ -168,12 +133,10 @@ fn some_pair(
     requires first { IsBitOf nodes.old first.0 × IsBitOf nodes.old first.1 }
     requires second { IsBitOf nodes.old second.0 × IsBitOf nodes.old second.1 }
     requires third { IsBitOf nodes.old third.0 × IsBitOf nodes.old third.1 }
-    ensures value { IfOk result (λ bit. HasValue nodes.new bit (λ free.
-        ((truth free nodes.old first.0 && truth free nodes.old first.1)
+    ensures { MakesBit nodes.old nodes.new result 5
+        (λ free. ((truth free nodes.old first.0 && truth free nodes.old first.1)
         || (truth free nodes.old second.0 && truth free nodes.old second.1))
-        || (truth free nodes.old third.0 && truth free nodes.old third.1))) }
-    ensures extends { Extends nodes.old nodes.new }
-    ensures count { gates_in nodes.new ≤ gates_in nodes.old + 5 }
+        || (truth free nodes.old third.0 && truth free nodes.old third.1)) }
 {
     let x = nodes.and(first.0, first.1)?;
     let y = nodes.and(second.0, second.1)?;
@@ -185,10 +148,8 @@ fn some_pair(
 /// The product of a word and a constant, which is made by as few sums and differences as its digits allow.
 fn constant_product(nodes: &mut Nodes, a: &Word, factor: u32) -> Result<Word, AllocError>
     requires { AreBitsOf nodes.old a.now }
-    ensures number { IfOk result (λ word.
-        HasNumber nodes.new word (λ free. (number_of free nodes.old a.now * factor) % 2 ^ 32)) }
-    ensures extends { Extends nodes.old nodes.new }
-    ensures count { gates_in nodes.new ≤ gates_in nodes.old + 4752 }
+    ensures { MakesWord nodes.old nodes.new result 4752
+        (λ free. (number_of free nodes.old a.now * factor) % 2 ^ 32) }
 {
     let minus = taken_digits(factor);
     sum_of_rows(nodes, a, factor.wrapping_add(minus), minus)
@@ -199,8 +160,7 @@ fn sum_of_rows(nodes: &mut Nodes, a: &Word, plus: u32, minus: u32) -> Result<Wor
     requires { AreBitsOf nodes.old a.now }
     ensures number { IfOk result (λ word. (factor : ℕ) → plus ≡ (factor + minus) % 2 ^ 32 →
         HasNumber nodes.new word (λ free. (number_of free nodes.old a.now * factor) % 2 ^ 32)) }
-    ensures extends { Extends nodes.old nodes.new }
-    ensures count { gates_in nodes.new ≤ gates_in nodes.old + 4752 }
+    ensures grows { Grows nodes.old nodes.new 4752 }
 {
     let mut sum = [Nodes::constant(false); 32];
     for i in 0..32 {
@@ -228,14 +188,10 @@ fn row(
     minus: bool,
 ) -> Result<Word, AllocError>
     requires small { place < 32 }
-    requires first { AreBitsOf nodes.old sum.now }
-    requires second { AreBitsOf nodes.old a.now }
-    ensures number { IfOk result (λ word. HasNumber nodes.new word (λ free.
-        sum_or_difference minus (number_of free nodes.old sum.now)
-        (if bool_xor minus plus then
-        (number_of free nodes.old a.now * 2 ^ place) % 2 ^ 32 else 0))) }
-    ensures extends { Extends nodes.old nodes.new }
-    ensures count { gates_in nodes.new ≤ gates_in nodes.old + 9 * (32 - place) }
+    requires words { AreWords nodes.old sum.now a.now }
+    ensures { MakesWord nodes.old nodes.new result (9 * (32 - place))
+        (λ free. sum_or_difference minus (number_of free nodes.old sum.now) (if bool_xor minus plus
+        then (number_of free nodes.old a.now * 2 ^ place) % 2 ^ 32 else 0)) }
 {
     if plus == minus {
         return Ok(*sum);

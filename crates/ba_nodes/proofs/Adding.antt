@@ -8,7 +8,7 @@ use Rattle.std.specs.declared.alloc.AllocError.{AllocError}
 use Rattle.ba_nodes.specs.declared.Bit.{Bit}
 use Rattle.ba_nodes.specs.declared.Node.{Node}
 use Rattle.ba_nodes.specs.declared.Node.TheVariants.{Free, And}
-use Rattle.ba_nodes.specs.Gates.{node_bit, node_truth, weight, gates_in, MayStandAt, AreOrdered, Puts, Extends, HasValue, IsGateOf, folded, IsMade}
+use Rattle.ba_nodes.specs.Gates.{node_bit, node_truth, weight, gates_in, MayStandAt, AreOrdered, Puts, Extends, Grows, HasValue, IsGateOf, folded, IsMade}
 use Rattle.ba_nodes.proofs.Folding.{folded_turned}
 use Rattle.ba_nodes.proofs.Truths.{truth-node, node_truth-append, Extends_refl, Extends-append, AreOrdered-push, gates-push}
 
@@ -60,6 +60,12 @@ added_gates old new node count more puts counted is =
           let one : more ≡ weight node = is ∙ ap (λ b. if b then weight node else 0) grown in
           ap (λ n. n + more) counted ∙ ap (λ n. gates_in old + n) one ∙ sym (gates-push old node) ∙ sym (ap gates_in longer.0)
     ]
+
+pub added_grows : (old new : List Node) (node : Node) → Puts old node new → Grows old new (weight node)
+added_grows old new node puts = record {
+  extends = added_extends old new node puts;
+  count = elim puts [ inl same ↦ omega (arith, ap gates_in same) | inr more ↦ omega (arith, ap gates_in more.0, gates-push old node) ];
+}
 
 -- a free bit has the number at which it stands
 pub added_free : (old new : List Node) (bit : Bit) → AreOrdered new → ((number : ℕ) × (bit ≡ node_bit number) × (slice_get new number ≡ Some (Free (length old)))) → bit ≡ node_bit (length old)

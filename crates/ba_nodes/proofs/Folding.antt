@@ -8,8 +8,8 @@ use Rattle.std.specs.declared.alloc.AllocError.{AllocError}
 use Rattle.std.proofs.Math.Bool.{and-true, and-false}
 use Rattle.ba_nodes.specs.declared.Bit.{Bit}
 use Rattle.ba_nodes.specs.declared.Node.{Node}
-use Rattle.ba_nodes.specs.Gates.{bool_xor, bool_majority, constant_bit, values_of, truth, IsBitOf, folded, HasValue}
-use Rattle.ba_nodes.proofs.Truths.{truth-constant}
+use Rattle.ba_nodes.specs.Gates.{bool_xor, bool_majority, constant_bit, values_of, truth, IsBitOf, folded, HasValue, MakesBit}
+use Rattle.ba_nodes.proofs.Truths.{truth-constant, Grows_refl, Grows-more}
 
 pub truth-zero : (free : ℕ → Bool) (nodes : List Node) (a : Bit) → a.index ≡ 0 → truth free nodes a ≡ a.negated
 truth-zero free nodes a zero =
@@ -43,10 +43,17 @@ truth-opposed free nodes a b same differ =
     by_cases false true t differ = refl
     by_cases false false t differ = absurd (cc)
 
--- a good outcome whose bit has a value, by an equal value
-pub ok_value : (nodes : List Node) (result : Result Bit AllocError) (value other : (ℕ → Bool) → Bool) → IfOk result (λ bit. HasValue nodes bit value) → ((free : ℕ → Bool) → value free ≡ other free) → IfOk result (λ bit. HasValue nodes bit other)
-ok_value nodes (Ok bit) value other has same = record { is_bit = has.is_bit; holds = λ free. has.holds free ∙ same free }
-ok_value nodes (Err error) value other has same = tt
+-- a bit that was there, where nothing was added
+pub makes_old : (nodes : List Node) (bit : Bit) (gates : ℕ) (meaning : (ℕ → Bool) → Bool) → IsBitOf nodes bit → ((free : ℕ → Bool) → truth free nodes bit ≡ meaning free) → MakesBit nodes nodes (Ok bit) gates meaning
+makes_old nodes bit gates meaning is_bit holds = record { value = record { is_bit = is_bit; holds = holds }; grows = Grows_refl nodes gates }
+
+-- a bit that is made has an equal value, by as many gates or more
+pub makes_same : (old new : List Node) (result : Result Bit AllocError) (few gates : ℕ) (value other : (ℕ → Bool) → Bool) → MakesBit old new result few value → few ≤ gates → ((free : ℕ → Bool) → value free ≡ other free) → MakesBit old new result gates other
+makes_same old new (Ok bit) few gates value other makes enough same = record {
+  value = record { is_bit = makes.value.is_bit; holds = λ free. makes.value.holds free ∙ same free };
+  grows = Grows-more old new makes.grows enough;
+}
+makes_same old new (Err error) few gates value other makes enough same = record { value = tt; grows = Grows-more old new makes.grows enough }
 
 pub xor_turned : (x y : Bool) → bool_xor x y ≡ bool_xor y x
 xor_turned true true = refl

@@ -8,7 +8,7 @@ use Rattle.std.proofs.lemmas.Option.{slice_get_within, slice_get-get_or, get_or_
 use Rattle.ba_nodes.specs.declared.Bit.{Bit}
 use Rattle.ba_nodes.specs.declared.Node.{Node}
 use Rattle.ba_nodes.specs.declared.Node.TheVariants.{Free, And, Xor, Mux, Majority}
-use Rattle.ba_nodes.specs.Gates.{bool_xor, bool_majority, constant_bit, node_bit, opposite, value_in, node_value, values_of, truth, node_truth, IsBitOf, weight, gates_in, MayStandAt, AreOrdered, Extends}
+use Rattle.ba_nodes.specs.Gates.{bool_xor, bool_majority, constant_bit, node_bit, opposite, value_in, node_value, values_of, truth, node_truth, IsBitOf, weight, gates_in, MayStandAt, AreOrdered, Extends, Grows}
 
 abbrev step : (ℕ → Bool) → List Bool → Node → List Bool
 step free values node = values ++ node_value free values node ∷ []
@@ -85,6 +85,18 @@ Extends-through old middle new first second = record {
   stays = λ number within. second.stays number (omega (arith, first.grows)) ∙ first.stays number within;
   keeps = λ free bit named. second.keeps free bit (omega (arith, first.grows)) ∙ first.keeps free bit named;
 }
+
+pub Grows_refl : (nodes : List Node) (gates : ℕ) → Grows nodes nodes gates
+Grows_refl nodes gates = record { extends = Extends_refl nodes; count = omega arith }
+
+pub Grows-through : {first second gates : ℕ} (old middle new : List Node) → Grows old middle first → Grows middle new second → first + second ≤ gates → Grows old new gates
+Grows-through old middle new before after enough = record {
+  extends = Extends-through old middle new before.extends after.extends;
+  count = omega (arith, before.count, after.count, enough);
+}
+
+pub Grows-more : {few gates : ℕ} (old new : List Node) → Grows old new few → few ≤ gates → Grows old new gates
+Grows-more old new grows enough = record { extends = grows.extends; count = omega (arith, grows.count, enough) }
 
 slice_get-append : (old more : List Node) (number : ℕ) → number < length old → slice_get (old ++ more) number ≡ slice_get old number
 slice_get-append old more number within =

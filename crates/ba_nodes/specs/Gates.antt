@@ -1,7 +1,8 @@
 -- Gates over free bits, and what they mean: under each assignment of the free bits every node and
 -- every bit has a truth value. An assignment gives a free bit its value by the number of its node.
 
-use Rattle.std.specs.Prelude.{◌≡◌, ℕ, ◌+◌, ◌<◌, ◌≤◌, ◌==◌, Bool, true, false, not, ◌&&◌, ◌||◌, ◌≢◌, List, [], ◌∷◌, ◌++◌, length, fold, Option, Some, None, slice_get, slice_index_or, sum_by, if◌then◌else◌, ◌⊎◌, IsNone}
+use Rattle.std.specs.Prelude.{◌≡◌, ℕ, ◌+◌, ◌<◌, ◌≤◌, ◌==◌, Bool, true, false, not, ◌&&◌, ◌||◌, ◌≢◌, List, [], ◌∷◌, ◌++◌, length, fold, Option, Some, None, slice_get, slice_index_or, sum_by, if◌then◌else◌, ◌⊎◌, IsNone, Result, IfOk}
+use Rattle.std.specs.declared.alloc.AllocError.{AllocError}
 use Rattle.ba_nodes.specs.declared.Bit.{Bit}
 use Rattle.ba_nodes.specs.declared.Node.{Node}
 use Rattle.ba_nodes.specs.declared.Node.TheVariants.{Free, And, Xor, Mux, Majority}
@@ -116,10 +117,20 @@ pub record Extends (old new : List Node) : Type 0 where
   pub stays : (number : ℕ) → number < length old → slice_get new number ≡ slice_get old number
   pub keeps : (free : ℕ → Bool) (bit : Bit) → IsBitOf old bit → truth free new bit ≡ truth free old bit
 
+-- nodes were added behind the old ones that count as at most so many gates
+pub record Grows (old new : List Node) (gates : ℕ) : Type 0 where
+  pub extends : Extends old new
+  pub count : gates_in new ≤ gates_in old + gates
+
 -- a bit of these nodes has this value under each assignment
 pub record HasValue (nodes : List Node) (bit : Bit) (value : (ℕ → Bool) → Bool) : Type 0 where
   pub is_bit : IsBitOf nodes bit
   pub holds : (free : ℕ → Bool) → truth free nodes bit ≡ value free
+
+-- a call gives a bit that has this value, by at most so many gates: where memory runs out the nodes grow no more
+pub record MakesBit (old new : List Node) (result : Result Bit AllocError) (gates : ℕ) (meaning : (ℕ → Bool) → Bool) : Type 0 where
+  pub value : IfOk result (λ bit. HasValue new bit meaning)
+  pub grows : Grows old new gates
 
 -- no node of the list is this one
 abbrev pub IsAbsent : List Node → Node → Type 0

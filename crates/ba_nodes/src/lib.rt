@@ -10,7 +10,7 @@
 ghost use Rattle.std.specs.Prelude.{◌≡◌, ℕ, ◌+◌, ◌<◌, ◌≤◌, ◌^◌, ◌⊎◌, ◌==◌, ◌≢◌, Bool, true, false, not, ◌&&◌, ◌||◌, List, [], ◌∷◌, ◌++◌, length, slice_get, IfOk, OnOk, OnErr, IfSome, IsNone, Ok, Some, if◌then◌else◌};
 ghost use Rattle.ba_nodes.specs.declared.Bit.{Bit};
 ghost use Rattle.ba_nodes.specs.declared.Node.{Node};
-ghost use Rattle.ba_nodes.specs.Gates.{bool_xor, bool_majority, constant_bit, node_bit, opposite, truth, node_truth, IsBitOf, gates_in, MayStandAt, AreOrdered, IsGateOf, IsMade, folded, Extends, HasValue, Puts, IsAbsent, weight};
+ghost use Rattle.ba_nodes.specs.Gates.{bool_xor, bool_majority, constant_bit, node_bit, opposite, truth, node_truth, IsBitOf, gates_in, MayStandAt, AreOrdered, IsGateOf, IsMade, folded, Extends, HasValue, MakesBit, Puts, IsAbsent, weight};
 
 use indexmap::IndexSet;
 use std::alloc::{AllocError, Global};
@@ -141,13 +141,11 @@ impl Nodes {
     pub fn and(&mut self, a: Bit, b: Bit) -> Result<Bit, AllocError>
         requires first { IsBitOf self.old a }
         requires second { IsBitOf self.old b }
-        ensures value { IfOk result (λ bit. HasValue self.new bit (λ free. truth free self.old a
-            && truth free self.old b)) }
+        ensures makes { MakesBit self.old self.new result 1
+            (λ free. truth free self.old a && truth free self.old b) }
         ensures again { (bit : Bit) → IsMade self.old a b bit → (result ≡ Ok bit)
             × (self.new ≡ self.old) }
         ensures made { IfOk result (IsMade self.new a b) }
-        ensures extends { Extends self.old self.new }
-        ensures count { gates_in self.new ≤ gates_in self.old + 1 }
         ensures err { OnErr result (self.new ≡ self.old) }
     {
         match folded(a, b) {
@@ -162,10 +160,8 @@ impl Nodes {
     pub fn or(&mut self, a: Bit, b: Bit) -> Result<Bit, AllocError>
         requires first { IsBitOf self.old a }
         requires second { IsBitOf self.old b }
-        ensures value { IfOk result (λ bit. HasValue self.new bit (λ free. truth free self.old a
-            || truth free self.old b)) }
-        ensures extends { Extends self.old self.new }
-        ensures count { gates_in self.new ≤ gates_in self.old + 1 }
+        ensures makes { MakesBit self.old self.new result 1
+            (λ free. truth free self.old a || truth free self.old b) }
         ensures err { OnErr result (self.new ≡ self.old) }
     {
         let neither = self.and(Nodes::not(a), Nodes::not(b))?;
@@ -178,11 +174,8 @@ impl Nodes {
     pub fn xor(&mut self, a: Bit, b: Bit) -> Result<Bit, AllocError>
         requires first { IsBitOf self.old a }
         requires second { IsBitOf self.old b }
-        ensures value { IfOk result (λ bit.
-            HasValue self.new bit (λ free. bool_xor (truth free self.old a)
-            (truth free self.old b))) }
-        ensures extends { Extends self.old self.new }
-        ensures count { gates_in self.new ≤ gates_in self.old + 3 }
+        ensures makes { MakesBit self.old self.new result 3
+            (λ free. bool_xor (truth free self.old a) (truth free self.old b)) }
         ensures err { OnErr result (self.new ≡ self.old) }
     {
         if a.index == 0 {
@@ -206,11 +199,9 @@ impl Nodes {
         requires chooser { IsBitOf self.old which }
         requires first { IsBitOf self.old yes }
         requires second { IsBitOf self.old no }
-        ensures value { IfOk result (λ bit.
-            HasValue self.new bit (λ free. if truth free self.old which then truth free self.old yes
-            else truth free self.old no)) }
-        ensures extends { Extends self.old self.new }
-        ensures count { gates_in self.new ≤ gates_in self.old + 3 }
+        ensures makes { MakesBit self.old self.new result 3
+            (λ free. if truth free self.old which then truth free self.old yes
+            else truth free self.old no) }
         ensures err { OnErr result (self.new ≡ self.old) }
     {
         if which.index == 0 {
@@ -228,11 +219,9 @@ impl Nodes {
         requires first { IsBitOf self.old a }
         requires second { IsBitOf self.old b }
         requires third { IsBitOf self.old c }
-        ensures value { IfOk result (λ bit.
-            HasValue self.new bit (λ free. bool_majority (truth free self.old a)
-            (truth free self.old b) (truth free self.old c))) }
-        ensures extends { Extends self.old self.new }
-        ensures count { gates_in self.new ≤ gates_in self.old + 3 }
+        ensures makes { MakesBit self.old self.new result 3
+            (λ free. bool_majority (truth free self.old a) (truth free self.old b)
+            (truth free self.old c)) }
         ensures err { OnErr result (self.new ≡ self.old) }
     {
         if a.index > b.index {
@@ -247,11 +236,9 @@ impl Nodes {
         requires second { IsBitOf self.old b }
         requires third { IsBitOf self.old c }
         requires order { a.index ≤ b.index }
-        ensures value { IfOk result (λ bit.
-            HasValue self.new bit (λ free. bool_majority (truth free self.old a)
-            (truth free self.old b) (truth free self.old c))) }
-        ensures extends { Extends self.old self.new }
-        ensures count { gates_in self.new ≤ gates_in self.old + 3 }
+        ensures makes { MakesBit self.old self.new result 3
+            (λ free. bool_majority (truth free self.old a) (truth free self.old b)
+            (truth free self.old c)) }
         ensures err { OnErr result (self.new ≡ self.old) }
     {
         if c.index < a.index {
@@ -270,11 +257,9 @@ impl Nodes {
         requires third { IsBitOf self.old c }
         requires lower { a.index ≤ b.index }
         requires upper { b.index ≤ c.index }
-        ensures value { IfOk result (λ bit.
-            HasValue self.new bit (λ free. bool_majority (truth free self.old a)
-            (truth free self.old b) (truth free self.old c))) }
-        ensures extends { Extends self.old self.new }
-        ensures count { gates_in self.new ≤ gates_in self.old + 3 }
+        ensures makes { MakesBit self.old self.new result 3
+            (λ free. bool_majority (truth free self.old a) (truth free self.old b)
+            (truth free self.old c)) }
         ensures err { OnErr result (self.new ≡ self.old) }
     {
         if a.index == 0 {
@@ -300,11 +285,8 @@ impl Nodes {
     fn settled(&mut self, a: Bit, b: Bit, one_is_enough: bool) -> Result<Bit, AllocError>
         requires first { IsBitOf self.old a }
         requires second { IsBitOf self.old b }
-        ensures value { IfOk result (λ bit.
-            HasValue self.new bit (λ free. bool_majority one_is_enough (truth free self.old a)
-            (truth free self.old b))) }
-        ensures extends { Extends self.old self.new }
-        ensures count { gates_in self.new ≤ gates_in self.old + 1 }
+        ensures makes { MakesBit self.old self.new result 1
+            (λ free. bool_majority one_is_enough (truth free self.old a) (truth free self.old b)) }
         ensures err { OnErr result (self.new ≡ self.old) }
     {
         if one_is_enough {
@@ -322,11 +304,9 @@ impl Nodes {
         requires some { 0 < which.index }
         requires first_apart { which.index ≢ yes.index }
         requires second_apart { which.index ≢ no.index }
-        ensures value { IfOk result (λ bit.
-            HasValue self.new bit (λ free. if truth free self.old which then truth free self.old yes
-            else truth free self.old no)) }
-        ensures extends { Extends self.old self.new }
-        ensures count { gates_in self.new ≤ gates_in self.old + 3 }
+        ensures makes { MakesBit self.old self.new result 3
+            (λ free. if truth free self.old which then truth free self.old yes
+            else truth free self.old no) }
         ensures err { OnErr result (self.new ≡ self.old) }
     {
         if yes.index == no.index {
@@ -351,11 +331,9 @@ impl Nodes {
         requires first { IsBitOf self.old yes }
         requires second { IsBitOf self.old no }
         requires same { yes.index ≡ no.index }
-        ensures value { IfOk result (λ bit.
-            HasValue self.new bit (λ free. if truth free self.old which then truth free self.old yes
-            else truth free self.old no)) }
-        ensures extends { Extends self.old self.new }
-        ensures count { gates_in self.new ≤ gates_in self.old + 3 }
+        ensures makes { MakesBit self.old self.new result 3
+            (λ free. if truth free self.old which then truth free self.old yes
+            else truth free self.old no) }
         ensures err { OnErr result (self.new ≡ self.old) }
     {
         if yes.negated == no.negated {
@@ -368,11 +346,8 @@ impl Nodes {
     fn unless(&mut self, which: Bit, value: bool, other: Bit) -> Result<Bit, AllocError>
         requires first { IsBitOf self.old which }
         requires second { IsBitOf self.old other }
-        ensures value { IfOk result (λ bit.
-            HasValue self.new bit (λ free. if truth free self.old which then value else truth free
-            self.old other)) }
-        ensures extends { Extends self.old self.new }
-        ensures count { gates_in self.new ≤ gates_in self.old + 1 }
+        ensures makes { MakesBit self.old self.new result 1
+            (λ free. if truth free self.old which then value else truth free self.old other) }
         ensures err { OnErr result (self.new ≡ self.old) }
     {
         if value {
@@ -390,11 +365,9 @@ impl Nodes {
         requires first_apart { which.index ≢ yes.index }
         requires second_apart { which.index ≢ no.index }
         requires third_apart { yes.index ≢ no.index }
-        ensures value { IfOk result (λ bit.
-            HasValue self.new bit (λ free. if truth free self.old which then truth free self.old yes
-            else truth free self.old no)) }
-        ensures extends { Extends self.old self.new }
-        ensures count { gates_in self.new ≤ gates_in self.old + 3 }
+        ensures makes { MakesBit self.old self.new result 3
+            (λ free. if truth free self.old which then truth free self.old yes
+            else truth free self.old no) }
         ensures err { OnErr result (self.new ≡ self.old) }
     {
         let negated = yes.negated;
@@ -407,11 +380,8 @@ impl Nodes {
         requires first { (0 < a.index) × IsBitOf self.old a }
         requires second { (0 < b.index) × IsBitOf self.old b }
         requires apart { a.index ≢ b.index }
-        ensures value { IfOk result (λ bit.
-            HasValue self.new bit (λ free. bool_xor (truth free self.old a)
-            (truth free self.old b))) }
-        ensures extends { Extends self.old self.new }
-        ensures count { gates_in self.new ≤ gates_in self.old + 3 }
+        ensures makes { MakesBit self.old self.new result 3
+            (λ free. bool_xor (truth free self.old a) (truth free self.old b)) }
         ensures err { OnErr result (self.new ≡ self.old) }
     {
         if a.index < b.index {
@@ -426,14 +396,12 @@ impl Nodes {
         requires first { IsBitOf self.old a }
         requires second { IsBitOf self.old b }
         requires needed { IsNone (folded a b) }
-        ensures value { IfOk result (λ bit. HasValue self.new bit (λ free. truth free self.old a
-            && truth free self.old b)) }
+        ensures makes { MakesBit self.old self.new result 1
+            (λ free. truth free self.old a && truth free self.old b) }
         ensures again { (number : ℕ) → IsGateOf self.old number a b
             → (result ≡ Ok (node_bit number)) × (self.new ≡ self.old) }
         ensures made { IfOk result (λ bit. (number : ℕ) × (bit ≡ node_bit number)
             × IsGateOf self.new number a b) }
-        ensures extends { Extends self.old self.new }
-        ensures count { gates_in self.new ≤ gates_in self.old + 1 }
         ensures err { OnErr result (self.new ≡ self.old) }
     {
         if a.index < b.index {
@@ -448,14 +416,12 @@ impl Nodes {
         requires { MayStandAt (length self.old) node }
         ensures ordered { AreOrdered self.new }
         ensures puts { OnOk result (Puts self.old node self.new) }
-        ensures value { IfOk result (λ bit.
-            HasValue self.new bit (λ free. node_truth free self.old node)) }
+        ensures makes { MakesBit self.old self.new result (weight node)
+            (λ free. node_truth free self.old node) }
         ensures again { (number : ℕ) → slice_get self.old number ≡ Some node
             → (result ≡ Ok (node_bit number)) × (self.new ≡ self.old) }
         ensures made { IfOk result (λ bit. (number : ℕ) × (bit ≡ node_bit number)
             × (slice_get self.new number ≡ Some node)) }
-        ensures extends { Extends self.old self.new }
-        ensures count { gates_in self.new ≤ gates_in self.old + weight node }
         ensures err { OnErr result (self.new ≡ self.old) }
     {
         let before = self.nodes.len();

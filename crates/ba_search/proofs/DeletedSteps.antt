@@ -5,13 +5,13 @@ use Rattle.std.specs.List.{list_all}
 use Rattle.ba_lits.specs.Literals.{Literal}
 use Rattle.ba_watch.specs.Propagation.{State as Watching}
 use Rattle.ba_steps.specs.Steps.{AreNumbers, AreAbove, IsFormed}
-use Rattle.ba_steps.specs.Sinks.{Logs, with_step, MayAddStep}
+use Rattle.ba_steps.specs.Sinks.{with_step, MayAddStep}
 use Rattle.ba_steps.specs.declared.step.CertStep.TheVariants.{Delete}
 use Rattle.ba_checker.specs.States.{State}
 use Rattle.ba_choices.specs.Judges.{Judge}
 use Rattle.ba_checker.specs.Judging.{may_go, error_of, after, after_delete}
-use Rattle.ba_checker.specs.Puts.{IsTakenOrAsleep}
-use Rattle.ba_search.specs.Searching.{IsDiscarded, LeavesBetween, PutsBetween}
+use Rattle.ba_checker.specs.Puts.{Checking, IsTakenOrAsleep}
+use Rattle.ba_search.specs.Searching.{IsDiscarded, Leaves, Puts}
 use Rattle.ba_search.specs.Iterations.{Numbering, IsUnderway}
 use Rattle.ba_search.proofs.DeletionLaws.{delete_allowed}
 use Rattle.ba_search.proofs.StepLaws.{Gives, puts_delete, leaves_put, leaves_delete}
@@ -65,31 +65,31 @@ pub delete_taken : (k d : State) (numbers named : List ℕ) → named ≡ number
 delete_taken k d numbers named is taken = let P : List ℕ → Type 0 = λ x. d ≡ after k (Delete x) in
     subst P is taken
 
-pub delete_puts : (good : Judge) (gives : Gives) (k d : State) (learnt all : List ℕ) (logs logs' : Logs)
-    (numbers named : List ℕ) →
-    named ≡ numbers → IsDeleteStep good gives k learnt numbers → d ≡ after k (Delete named) → all ≡ learnt →
-    logs' ≡ with_step (Delete named) logs → PutsBetween good gives k d learnt all logs logs'
-delete_puts good gives k d learnt all logs logs' numbers named is step taken same told =
-    let P : List ℕ → Type 0 = λ x. logs' ≡ with_step (Delete x) logs in
-    subst (λ (ns : List ℕ). PutsBetween good gives k d learnt ns logs logs') (sym same)
-    (puts_delete good gives k d learnt logs logs' numbers step.formed step.allowed step.given
-    (delete_taken k d numbers named is taken) (subst P is told))
+pub delete_puts : (gives : Gives) (old new : Checking) (learnt all numbers named : List ℕ) →
+    named ≡ numbers → IsDeleteStep old.accepts gives old.checker learnt numbers →
+    new.checker ≡ after old.checker (Delete named) → all ≡ learnt →
+    new.told.logs ≡ with_step (Delete named) old.told.logs → Puts gives learnt all old new
+delete_puts gives old new learnt all numbers named is step taken same told =
+    let P : List ℕ → Type 0 = λ x. new.told.logs ≡ with_step (Delete x) old.told.logs in
+    subst (λ (ns : List ℕ). Puts gives learnt ns old new) (sym same)
+    (puts_delete gives old new learnt numbers step.formed step.allowed step.given
+    (delete_taken old.checker new.checker numbers named is taken) (subst P is told))
 
-pub delete_left : (good : Judge) (gives : Gives) (k d : State) (learnt : List ℕ) (logs logs' : Logs)
-    (numbers named : List ℕ) →
-    named ≡ numbers → IsDeleteStep good gives k learnt numbers → d ≡ after k (Delete named) →
-    logs' ≡ with_step (Delete named) logs → LeavesBetween good gives learnt k logs d logs'
-delete_left good gives k d learnt logs logs' numbers named is step taken told =
-    leaves_put good gives learnt learnt k d logs logs'
-    (delete_puts good gives k d learnt learnt logs logs' numbers named is step taken refl told)
+pub delete_left : (gives : Gives) (old new : Checking) (learnt numbers named : List ℕ) →
+    named ≡ numbers → IsDeleteStep old.accepts gives old.checker learnt numbers →
+    new.checker ≡ after old.checker (Delete named) →
+    new.told.logs ≡ with_step (Delete named) old.told.logs → Leaves gives learnt old new
+delete_left gives old new learnt numbers named is step taken told =
+    leaves_put gives old new learnt learnt
+    (delete_puts gives old new learnt learnt numbers named is step taken refl told)
 
 -- it was tried
-pub delete_tried : (good : Judge) (gives : Gives) (k d : State) (learnt : List ℕ) (logs logs' : Logs)
-    (numbers named : List ℕ) →
-    named ≡ numbers → IsDeleteStep good gives k learnt numbers → IsTakenOrAsleep k (Delete named) d →
-    MayAddStep (Delete named) logs logs' → LeavesBetween good gives learnt k logs d logs'
-delete_tried good gives k d learnt logs logs' numbers named is step taken told =
-    let P : List ℕ → Type 0 = λ x. IsTakenOrAsleep k (Delete x) d in
-    let Q : List ℕ → Type 0 = λ x. MayAddStep (Delete x) logs logs' in
-    leaves_delete good gives learnt k d logs logs' numbers step.formed step.allowed step.given
+pub delete_tried : (gives : Gives) (old new : Checking) (learnt numbers named : List ℕ) →
+    named ≡ numbers → IsDeleteStep old.accepts gives old.checker learnt numbers →
+    IsTakenOrAsleep old.checker (Delete named) new.checker →
+    MayAddStep (Delete named) old.told.logs new.told.logs → Leaves gives learnt old new
+delete_tried gives old new learnt numbers named is step taken told =
+    let P : List ℕ → Type 0 = λ x. IsTakenOrAsleep old.checker (Delete x) new.checker in
+    let Q : List ℕ → Type 0 = λ x. MayAddStep (Delete x) old.told.logs new.told.logs in
+    leaves_delete gives old new learnt numbers step.formed step.allowed step.given
     (subst P is taken) (subst Q is told)

@@ -7,15 +7,15 @@ use Rattle.ba_watch.specs.Propagation.{State as Watching, KeepsFacts}
 use Rattle.ba_learn.specs.Live.{Follows, IsNew, IsNewTo}
 use Rattle.ba_learn.specs.Levels.{IsBacked}
 use Rattle.ba_steps.specs.Steps.{IsFormed}
-use Rattle.ba_steps.specs.Sinks.{Logs, with_step, MayAddStep}
+use Rattle.ba_steps.specs.Sinks.{with_step, MayAddStep}
 use Rattle.ba_steps.specs.declared.step.CertStep.{CertStep}
 use Rattle.ba_steps.specs.declared.step.CertStep.TheVariants.{Learn}
 use Rattle.ba_checker.specs.States.{State, kept, clause_at}
 use Rattle.ba_checker.specs.declared.store.Origin.TheVariants.{Learnt}
 use Rattle.ba_choices.specs.Judges.{Judge}
 use Rattle.ba_checker.specs.Judging.{error_of, after, after_learn}
-use Rattle.ba_checker.specs.Puts.{IsTakenOrAsleep}
-use Rattle.ba_search.specs.Searching.{LeavesBetween, PutsBetween}
+use Rattle.ba_checker.specs.Puts.{Checking, IsTakenOrAsleep}
+use Rattle.ba_search.specs.Searching.{Leaves, Puts}
 use Rattle.ba_search.specs.Iterations.{Numbering, IsUnderway}
 use Rattle.ba_search.proofs.LearnLaws.{Formed, learnt_clause, learnt_numbers, learnt_formed, learn_allowed}
 use Rattle.ba_search.proofs.StepLaws.{Gives, puts_learn, leaves_put, leaves_tried}
@@ -60,35 +60,38 @@ pub step_taken : (k d : State) (lits : List Literal) (hints : List ℕ) (step : 
 step_taken k d lits hints step is taken = let P : CertStep → Type 0 = λ x. d ≡ after k x in subst P is taken
 
 -- the step was put
-pub learnt_puts : (good : Judge) (gives : Gives) (k d : State) (learnt all : List ℕ) (logs logs' : Logs)
-    (lits : List Literal) (hints : List ℕ) (step : CertStep) →
-    step ≡ Learn lits hints → IsLearntStep good k lits hints →
-    d ≡ after k step → all ≡ learnt ++ length d.clauses ∷ [] → logs' ≡ with_step step logs →
-    PutsBetween good gives k d learnt all logs logs'
-learnt_puts good gives k d learnt all logs logs' lits hints step is step_is taken grown told =
-    let P : CertStep → Type 0 = λ x. logs' ≡ with_step x logs in
-    let d_is : d ≡ after_learn k lits = step_taken k d lits hints step is taken in
-    let last : length d.clauses ≡ length k.clauses + 1 = ap (λ (x : State). length x.clauses) d_is
-    ∙ length_push k.clauses (kept Learnt lits) in
-    puts_learn good gives k d learnt all logs logs' lits hints step_is.formed step_is.allowed step_is.new d_is
+pub learnt_puts : (gives : Gives) (old new : Checking) (learnt all : List ℕ) (lits : List Literal)
+    (hints : List ℕ) (step : CertStep) →
+    step ≡ Learn lits hints → IsLearntStep old.accepts old.checker lits hints →
+    new.checker ≡ after old.checker step → all ≡ learnt ++ length new.checker.clauses ∷ [] →
+    new.told.logs ≡ with_step step old.told.logs → Puts gives learnt all old new
+learnt_puts gives old new learnt all lits hints step is step_is taken grown told =
+    let P : CertStep → Type 0 = λ x. new.told.logs ≡ with_step x old.told.logs in
+    let new_is : new.checker ≡ after_learn old.checker lits =
+    step_taken old.checker new.checker lits hints step is taken in
+    let last : length new.checker.clauses ≡ length old.checker.clauses + 1 =
+    ap (λ (x : State). length x.clauses) new_is ∙ length_push old.checker.clauses (kept Learnt lits) in
+    puts_learn gives old new learnt all lits hints step_is.formed step_is.allowed step_is.new new_is
     (grown ∙ ap (λ (n : ℕ). learnt ++ n ∷ []) last) (subst P is told)
 
-pub learnt_left : (good : Judge) (gives : Gives) (k d : State) (learnt : List ℕ) (logs logs' : Logs)
-    (lits : List Literal) (hints : List ℕ) (step : CertStep) →
-    step ≡ Learn lits hints → IsLearntStep good k lits hints →
-    d ≡ after k step → logs' ≡ with_step step logs → LeavesBetween good gives learnt k logs d logs'
-learnt_left good gives k d learnt logs logs' lits hints step is step_is taken told =
-    leaves_put good gives learnt (learnt ++ length d.clauses ∷ []) k d logs logs'
-    (learnt_puts good gives k d learnt (learnt ++ length d.clauses ∷ []) logs logs' lits hints step is
-    step_is taken refl told)
+pub learnt_left : (gives : Gives) (old new : Checking) (learnt : List ℕ) (lits : List Literal)
+    (hints : List ℕ) (step : CertStep) →
+    step ≡ Learn lits hints → IsLearntStep old.accepts old.checker lits hints →
+    new.checker ≡ after old.checker step → new.told.logs ≡ with_step step old.told.logs →
+    Leaves gives learnt old new
+learnt_left gives old new learnt lits hints step is step_is taken told =
+    let all = learnt ++ length new.checker.clauses ∷ [] in
+    leaves_put gives old new learnt all
+    (learnt_puts gives old new learnt all lits hints step is step_is taken refl told)
 
 -- it was tried
-pub learnt_tried : (good : Judge) (gives : Gives) (k d : State) (learnt : List ℕ) (logs logs' : Logs)
-    (lits : List Literal) (hints : List ℕ) (step : CertStep) →
-    step ≡ Learn lits hints → IsLearntStep good k lits hints →
-    IsTakenOrAsleep k step d → MayAddStep step logs logs' → LeavesBetween good gives learnt k logs d logs'
-learnt_tried good gives k d learnt logs logs' lits hints step is step_is taken told =
-    let P : CertStep → Type 0 = λ x. IsTakenOrAsleep k x d in
-    let Q : CertStep → Type 0 = λ x. MayAddStep x logs logs' in
-    leaves_tried good gives learnt k d logs logs' lits hints step_is.formed step_is.allowed step_is.new
+pub learnt_tried : (gives : Gives) (old new : Checking) (learnt : List ℕ) (lits : List Literal)
+    (hints : List ℕ) (step : CertStep) →
+    step ≡ Learn lits hints → IsLearntStep old.accepts old.checker lits hints →
+    IsTakenOrAsleep old.checker step new.checker → MayAddStep step old.told.logs new.told.logs →
+    Leaves gives learnt old new
+learnt_tried gives old new learnt lits hints step is step_is taken told =
+    let P : CertStep → Type 0 = λ x. IsTakenOrAsleep old.checker x new.checker in
+    let Q : CertStep → Type 0 = λ x. MayAddStep x old.told.logs new.told.logs in
+    leaves_tried gives old new learnt lits hints step_is.formed step_is.allowed step_is.new
     (subst P is taken) (subst Q is told)

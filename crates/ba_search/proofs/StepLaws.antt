@@ -8,58 +8,55 @@ use Rattle.ba_lits.specs.Literals.{Literal}
 use Rattle.ba_watch.specs.Threads.{Clause}
 use Rattle.ba_learn.specs.Live.{AreLive, IsNew}
 use Rattle.ba_steps.specs.Steps.{IsFormed}
-use Rattle.ba_steps.specs.Sinks.{Logs, with_step, MayAddStep}
+use Rattle.ba_steps.specs.Sinks.{with_step, MayAddStep}
 use Rattle.ba_steps.specs.declared.step.CertStep.{CertStep}
 use Rattle.ba_steps.specs.declared.step.CertStep.TheVariants.{Learn, Delete}
 use Rattle.ba_checker.specs.States.{kept, State, live_lits, clause_at}
 use Rattle.ba_checker.specs.declared.store.Origin.TheVariants.{Given}
 use Rattle.ba_choices.specs.Judges.{Judge}
 use Rattle.ba_checker.specs.Judging.{error_of, after, after_learn, after_delete}
-use Rattle.ba_checker.specs.Puts.{IsTakenOrAsleep, leaves_all, leaves_last}
+use Rattle.ba_checker.specs.Puts.{Checking, IsTakenOrAsleep, Lasts, LeavesSteps, leaves_all, leaves_last}
 use Rattle.ba_checker.proofs.PutLaws.{logs_then, leaves_weaker, leaves_after}
-use Rattle.ba_search.specs.Searching.{nothing, IsDiscarded, Searches, searches_none, searches_learn, searches_delete, LeavesBetween, PutsBetween}
+use Rattle.ba_search.specs.Searching.{nothing, IsDiscarded, Searches, searches_none, searches_learn, searches_delete, Leaves, Puts}
 use Rattle.ba_search.specs.Iterations.{AreTaken, AreThere}
 use Rattle.ba_search.proofs.TakenLaws.{taken_live}
 
 abbrev pub Gives : Type 1
 Gives = ℕ → ℕ → Bool → Type 0
 
-pub puts_none : (good : Judge) (gives : Gives) (c : State) (learnt : List ℕ) (logs : Logs) →
-    PutsBetween good gives c c learnt learnt logs logs
-puts_none good gives c learnt logs = record { steps = []; leads = searches_none c learnt; logs = refl }
+pub puts_none : (gives : Gives) (log : Checking) (learnt : List ℕ) → Puts gives learnt learnt log log
+puts_none gives log learnt = record { steps = []; leads = searches_none log.checker learnt; logs = refl }
 
-pub puts_stay : (good : Judge) (gives : Gives) (c : State) (learnt all : List ℕ) (logs : Logs) →
-    all ≡ learnt →
-    PutsBetween good gives c c learnt all logs logs
-puts_stay good gives c learnt all logs same =
-    subst (λ (ns : List ℕ). PutsBetween good gives c c learnt ns logs logs) (sym same)
-    (puts_none good gives c learnt logs)
+pub puts_stay : (gives : Gives) (log : Checking) (learnt all : List ℕ) → all ≡ learnt →
+    Puts gives learnt all log log
+puts_stay gives log learnt all same =
+    subst (λ (ns : List ℕ). Puts gives learnt ns log log) (sym same) (puts_none gives log learnt)
 
-pub puts_learn : (good : Judge) (gives : Gives) (c d : State) (learnt all : List ℕ) (logs logs' : Logs)
-    (lits : List Literal) (hints : List ℕ) →
-    IsFormed (Learn lits hints) → error_of good c (Learn lits hints) ≡ None →
-    IsNew (clause_at c.clauses) lits →
-    d ≡ after_learn c lits → all ≡ learnt ++ (length c.clauses + 1) ∷ [] →
-    logs' ≡ with_step (Learn lits hints) logs →
-    PutsBetween good gives c d learnt all logs logs'
-puts_learn good gives c d learnt all logs logs' lits hints formed allowed new is grown told = record {
+pub puts_learn : (gives : Gives) (old new : Checking) (learnt all : List ℕ) (lits : List Literal)
+    (hints : List ℕ) →
+    IsFormed (Learn lits hints) → error_of old.accepts old.checker (Learn lits hints) ≡ None →
+    IsNew (clause_at old.checker.clauses) lits → new.checker ≡ after_learn old.checker lits →
+    all ≡ learnt ++ (length old.checker.clauses + 1) ∷ [] →
+    new.told.logs ≡ with_step (Learn lits hints) old.told.logs → Puts gives learnt all old new
+puts_learn gives old new learnt all lits hints formed allowed is_new is grown told = record {
   steps = Learn lits hints ∷ [];
-  leads = searches_learn c d learnt all lits hints [] formed allowed new
-      (subst (λ (x : State). Searches good gives x (learnt ++ (length c.clauses + 1) ∷ []) [] d all) is
-      (subst (λ (ns : List ℕ). Searches good gives d ns [] d all) grown (searches_none d all)));
+  leads = searches_learn old.checker new.checker learnt all lits hints [] formed allowed is_new
+      (subst (λ (x : State). Searches old.accepts gives x (learnt ++ (length old.checker.clauses + 1) ∷ []) []
+      new.checker all) is
+      (subst (λ (ns : List ℕ). Searches old.accepts gives new.checker ns [] new.checker all) grown
+      (searches_none new.checker all)));
   logs = told;
 }
 
-pub puts_delete : (good : Judge) (gives : Gives) (c d : State) (learnt : List ℕ) (logs logs' : Logs)
-    (numbers : List ℕ) →
-    IsFormed (Delete numbers) → error_of good c (Delete numbers) ≡ None →
-    All (IsDiscarded gives c learnt) numbers →
-    d ≡ after_delete c numbers → logs' ≡ with_step (Delete numbers) logs →
-    PutsBetween good gives c d learnt learnt logs logs'
-puts_delete good gives c d learnt logs logs' numbers formed allowed given is told = record {
+pub puts_delete : (gives : Gives) (old new : Checking) (learnt numbers : List ℕ) →
+    IsFormed (Delete numbers) → error_of old.accepts old.checker (Delete numbers) ≡ None →
+    All (IsDiscarded gives old.checker learnt) numbers → new.checker ≡ after_delete old.checker numbers →
+    new.told.logs ≡ with_step (Delete numbers) old.told.logs → Puts gives learnt learnt old new
+puts_delete gives old new learnt numbers formed allowed given is told = record {
   steps = Delete numbers ∷ [];
-  leads = searches_delete c d learnt learnt numbers [] formed allowed given
-      (subst (λ (x : State). Searches good gives x learnt [] d learnt) is (searches_none d learnt));
+  leads = searches_delete old.checker new.checker learnt learnt numbers [] formed allowed given
+      (subst (λ (x : State). Searches old.accepts gives x learnt [] new.checker learnt) is
+      (searches_none new.checker learnt));
   logs = told;
 }
 
@@ -92,82 +89,84 @@ searches_weaker {gives = gives} {more = more} weaker
     given)
     (searches_weaker weaker rest)
 
-pub puts_any : (good : Judge) (gives : Gives) (c d : State) (learnt all : List ℕ) (logs logs' : Logs) →
-    PutsBetween good nothing c d learnt all logs logs' → PutsBetween good gives c d learnt all logs logs'
-puts_any good gives c d learnt all logs logs' p = record {
+pub puts_any : (gives : Gives) (old new : Checking) (learnt all : List ℕ) →
+    Puts nothing learnt all old new → Puts gives learnt all old new
+puts_any gives old new learnt all p = record {
   steps = p.steps;
   leads = searches_weaker (λ width age kept none. absurd none) p.leads;
   logs = p.logs;
 }
 
-pub leaves_any : (good : Judge) (gives : Gives) (learnt : List ℕ) (c d : State) (logs logs' : Logs) →
-    LeavesBetween good nothing learnt c logs d logs' → LeavesBetween good gives learnt c logs d logs'
-leaves_any good gives learnt c d logs logs' left =
+pub leaves_any : (gives : Gives) (old new : Checking) (learnt : List ℕ) →
+    Leaves nothing learnt old new → Leaves gives learnt old new
+leaves_any gives old new learnt left =
     leaves_weaker (λ steps t s. (s.0, searches_weaker (λ width age kept none. absurd none) s.1)) left
 
-pub puts_then : (good good' : Judge) (gives : Gives) (a b c : State) (u v w : List ℕ) (k l m : Logs) →
-    good' ≡ good →
-    PutsBetween good gives a b u v k l → PutsBetween good' gives b c v w l m → PutsBetween good gives a c u w k m
-puts_then good good' gives a b c u v w k l m same p q = record {
+pub puts_then : (gives : Gives) (a b c : Checking) (u v w : List ℕ) →
+    Lasts a b → Puts gives u v a b → Puts gives v w b c → Puts gives u w a c
+puts_then gives a b c u v w lasts p q = record {
   steps = p.steps ++ q.steps;
-  leads = searches_then good gives a b c u v w p.steps q.steps p.leads
-      (subst (λ (j : Judge). Searches j gives b v q.steps c w) same q.leads);
-  logs = logs_then p.steps q.steps k l m p.logs q.logs;
+  leads = searches_then a.accepts gives a.checker b.checker c.checker u v w p.steps q.steps p.leads
+      (subst (λ (j : Judge). Searches j gives b.checker v q.steps c.checker w) lasts.judge_stays q.leads);
+  logs = logs_then p.steps q.steps a.told.logs b.told.logs c.told.logs p.logs q.logs;
 }
 
 -- what is left where nothing was put, where steps were put, where one was tried, and after more steps
-pub leaves_none : (good : Judge) (gives : Gives) (learnt : List ℕ) (c : State) (logs : Logs) →
-    LeavesBetween good gives learnt c logs c logs
-leaves_none good gives learnt c logs = leaves_all [] (learnt, searches_none c learnt) refl
+pub leaves_none : (gives : Gives) (log : Checking) (learnt : List ℕ) → Leaves gives learnt log log
+leaves_none gives log learnt = leaves_all [] (learnt, searches_none log.checker learnt) refl
 
-pub leaves_put : (good : Judge) (gives : Gives) (learnt all : List ℕ) (c d : State) (logs logs' : Logs) →
-    PutsBetween good gives c d learnt all logs logs' → LeavesBetween good gives learnt c logs d logs'
-leaves_put good gives learnt all c d logs logs' p = leaves_all p.steps (all, p.leads) p.logs
+pub leaves_put : (gives : Gives) (old new : Checking) (learnt all : List ℕ) →
+    Puts gives learnt all old new → Leaves gives learnt old new
+leaves_put gives old new learnt all p = leaves_all p.steps (all, p.leads) p.logs
 
-pub leaves_tried : (good : Judge) (gives : Gives) (learnt : List ℕ) (c d : State) (logs logs' : Logs)
-    (lits : List Literal) (hints : List ℕ) →
-    IsFormed (Learn lits hints) → error_of good c (Learn lits hints) ≡ None → IsNew (clause_at c.clauses) lits
-    → IsTakenOrAsleep c (Learn lits hints) d → MayAddStep (Learn lits hints) logs logs' →
-    LeavesBetween good gives learnt c logs d logs'
-leaves_tried good gives learnt c d logs logs' lits hints formed allowed new taken told =
-    let all : List ℕ = learnt ++ (length c.clauses + 1) ∷ [] in
-    let next : State = after c (Learn lits hints) in
-    leaves_last [] (Learn lits hints) c (learnt, searches_none c learnt)
-    (all, searches_learn c next learnt all lits hints [] formed allowed new (searches_none next all))
+pub leaves_tried : (gives : Gives) (old new : Checking) (learnt : List ℕ) (lits : List Literal)
+    (hints : List ℕ) →
+    IsFormed (Learn lits hints) → error_of old.accepts old.checker (Learn lits hints) ≡ None →
+    IsNew (clause_at old.checker.clauses) lits → IsTakenOrAsleep old.checker (Learn lits hints) new.checker →
+    MayAddStep (Learn lits hints) old.told.logs new.told.logs → Leaves gives learnt old new
+leaves_tried gives old new learnt lits hints formed allowed is_new taken told =
+    let all : List ℕ = learnt ++ (length old.checker.clauses + 1) ∷ [] in
+    let next : State = after old.checker (Learn lits hints) in
+    leaves_last [] (Learn lits hints) old.checker (learnt, searches_none old.checker learnt) (
+      all,
+      searches_learn old.checker next learnt all lits hints [] formed allowed is_new
+          (searches_none next all),
+    )
     taken told
 
-pub leaves_delete : (good : Judge) (gives : Gives) (learnt : List ℕ) (c d : State) (logs logs' : Logs)
-    (numbers : List ℕ) →
-    IsFormed (Delete numbers) → error_of good c (Delete numbers) ≡ None →
-    All (IsDiscarded gives c learnt) numbers
-    → IsTakenOrAsleep c (Delete numbers) d → MayAddStep (Delete numbers) logs logs' →
-    LeavesBetween good gives learnt c logs d logs'
-leaves_delete good gives learnt c d logs logs' numbers formed allowed given taken told =
-    let next : State = after c (Delete numbers) in
-    leaves_last [] (Delete numbers) c (learnt, searches_none c learnt)
-    (learnt, searches_delete c next learnt learnt numbers [] formed allowed given (searches_none next learnt))
+pub leaves_delete : (gives : Gives) (old new : Checking) (learnt numbers : List ℕ) →
+    IsFormed (Delete numbers) → error_of old.accepts old.checker (Delete numbers) ≡ None →
+    All (IsDiscarded gives old.checker learnt) numbers →
+    IsTakenOrAsleep old.checker (Delete numbers) new.checker →
+    MayAddStep (Delete numbers) old.told.logs new.told.logs → Leaves gives learnt old new
+leaves_delete gives old new learnt numbers formed allowed given taken told =
+    let next : State = after old.checker (Delete numbers) in
+    leaves_last [] (Delete numbers) old.checker (learnt, searches_none old.checker learnt) (
+      learnt,
+      searches_delete old.checker next learnt learnt numbers [] formed allowed given
+          (searches_none next learnt),
+    )
     taken told
 
-pub leaves_then : (good good' : Judge) (gives : Gives) (u v : List ℕ) (a b c : State) (k l m : Logs) →
-    good' ≡ good →
-    PutsBetween good gives a b u v k l → LeavesBetween good' gives v b l c m → LeavesBetween good gives u a k c m
-leaves_then good good' gives u v a b c k l m same p left =
-    leaves_after p.steps c k l m p.logs
-    (λ steps t s. (s.0, searches_then good gives a b t u v s.0 p.steps steps p.leads s.1))
-    (subst (λ (j : Judge). LeavesBetween j gives v b l c m) same left)
+pub leaves_then : (gives : Gives) (a b c : Checking) (u v : List ℕ) →
+    Lasts a b → Puts gives u v a b → Leaves gives v b c → Leaves gives u a c
+leaves_then gives a b c u v lasts p left =
+    leaves_after p.steps c.checker a.told.logs b.told.logs c.told.logs p.logs
+    (λ steps t s.
+    (s.0, searches_then a.accepts gives a.checker b.checker t u v s.0 p.steps steps p.leads s.1))
+    (subst (λ (j : Judge). LeavesSteps (λ steps t. (all : List ℕ) × Searches j gives b.checker v steps t all)
+    b.told.logs c.checker c.told.logs) lasts.judge_stays left)
 
 -- the same from an equal list
-pub puts_from : (good : Judge) (gives : Gives) (c d : State) (start learnt all : List ℕ) (logs logs' : Logs)
-    → start ≡ learnt →
-    PutsBetween good gives c d start all logs logs' → PutsBetween good gives c d learnt all logs logs'
-puts_from good gives c d start learnt all logs logs' same p =
-    subst (λ (ns : List ℕ). PutsBetween good gives c d ns all logs logs') same p
+pub puts_from : (gives : Gives) (old new : Checking) (start learnt all : List ℕ) → start ≡ learnt →
+    Puts gives start all old new → Puts gives learnt all old new
+puts_from gives old new start learnt all same p =
+    subst (λ (ns : List ℕ). Puts gives ns all old new) same p
 
-pub leaves_from : (good : Judge) (gives : Gives) (start learnt : List ℕ) (c d : State) (logs logs' : Logs) →
-    start ≡ learnt →
-    LeavesBetween good gives start c logs d logs' → LeavesBetween good gives learnt c logs d logs'
-leaves_from good gives start learnt c d logs logs' same left =
-    subst (λ (ns : List ℕ). LeavesBetween good gives ns c logs d logs') same left
+pub leaves_from : (gives : Gives) (old new : Checking) (start learnt : List ℕ) → start ≡ learnt →
+    Leaves gives start old new → Leaves gives learnt old new
+leaves_from gives old new start learnt same left =
+    subst (λ (ns : List ℕ). Leaves gives ns old new) same left
 
 -- the clauses of a formula by their numbers
 given_at : (cs : List (List Literal)) (k : ℕ) → k < length cs →

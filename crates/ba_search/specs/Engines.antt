@@ -1,6 +1,6 @@
 -- What the calls of an engine leave, from one state of it to another.
 
-use Rattle.std.specs.Prelude.{◌≡◌, ℕ, ◌<◌, Bool, true, false, None, Option, Result, IfOk, IfSome, IfNone, IsSome, OnOk, List}
+use Rattle.std.specs.Prelude.{◌≡◌, ℕ, ◌<◌, Bool, true, false, None, Some, Option, Result, IfOk, IfSome, IfNone, IsSome, OnOk, List}
 use Rattle.ba_lits.specs.Literals.{Literal}
 use Rattle.ba_watch.specs.Trails.{value_of}
 use Rattle.ba_watch.specs.Propagation.{State as Watching, clause_in, is_false, lits_in}
@@ -41,7 +41,8 @@ abbrev pub IsConflict : Watching → ℕ → Type 0
 IsConflict watch clause = IsSome (clause_in watch.clauses clause)
     × (is_false (value_of watch.trail) (lits_in watch.clauses clause) ≡ true)
 
--- a search between two iterations went on to the next, over the same variables and with Learn and Delete steps that were put
+-- a search between two iterations went on to the next, over the same variables and with Learn and Delete
+-- steps that were put
 pub record GoesOn (gives : ℕ → ℕ → Bool → Type 0) (assumptions : List Literal) (before after : Checking)
     (old new : Engine) : Type 0 where
   pub underway : IsAtWork assumptions new after
@@ -50,11 +51,18 @@ pub record GoesOn (gives : ℕ → ℕ → Bool → Type 0) (assumptions : List 
 
 -- a deletion counts no conflict
 pub record CountsNone (before after : Checking) (old new : Engine) : Type 0 where
+  pub backtracks : new.backtracks_left ≡ old.backtracks_left
   pub room : new.watch.variables ≡ old.watch.variables
   pub conflicts : after.checker.conflicts ≡ before.checker.conflicts
   pub budget : after.checker.budget ≡ before.checker.budget
 
--- a search between two iterations decided, and then fewer iterations are left, or it is over, and then the answer holds
+-- what an iteration comes to: an answer; or none, and then fewer are left
+abbrev pub ComesTo : List Literal → Checking → Engine → Checking → Engine → Option Answer → Type 0
+ComesTo assumptions before old after new (Some answer) = IsAnswer after.checker assumptions answer
+ComesTo assumptions before old after new None = left_in new after < left_in old before
+
+-- a search between two iterations decided, and then fewer iterations are left, or it is over, and then the
+-- answer holds
 pub record Decides {E : Type 0} (assumptions : List Literal) (c : State) (result : Result (Option Answer) E)
     (old new : Engine) : Type 0 where
   pub answer : IfOk result (λ found. IfSome found (IsAnswer c assumptions))

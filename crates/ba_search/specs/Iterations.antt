@@ -37,7 +37,8 @@ pub record MarksLive (clauses : List (Option Clause)) (taken : List Bool) : Type
       get_or taken c.number false ≡ true
   pub alone : HaveDistinctNumbers clauses
 
--- the clauses of reasons of so many literals of the trail are marked by their numbers, where there is room for their marks
+-- the clauses of reasons of so many literals of the trail are marked by their numbers, where there is room
+-- for their marks
 abbrev pub MarksReasons : Watching → ℕ → List Bool → Type 0
 MarksReasons s count marks = (p : ℕ) → p < count → get_or marks (number_at s p) true ≡ true
 
@@ -102,7 +103,8 @@ pub record AreDiscarded (gives : ℕ → ℕ → Bool →
 abbrev pub AreTrue : List Literal → List Literal → Type 0
 AreTrue trail lits = (k : ℕ) → k < length lits → value_of trail (lit_at lits k) ≡ Some true
 
--- a literal may be decided after a trail: its variable exists, and it is an assumption, or all assumptions are true
+-- a literal may be decided after a trail: its variable exists, and it is an assumption, or all assumptions
+-- are true
 pub record IsDecision (variables : ℕ) (assumptions trail : List Literal) (lit : Literal) : Type 0 where
   pub within : lit.variable ≤ variables
   pub given : (has_literal lit assumptions ≡ true) ⊎ AreTrue trail assumptions
@@ -124,8 +126,8 @@ pub record IsUnderway (assumptions : List Literal) (s : Watching) (numbers : Num
     pub begun : c.ended ≡ false
     pub awake : c.refused ≡ false
 
--- a conflict counts for 1001 iterations, of which 1000 may take decisions back later; a decision is an iteration on the
--- way to the next conflict
+-- a conflict counts for 1001 iterations, of which 1000 may take decisions back later; a decision is an
+-- iteration on the way to the next conflict
 abbrev pub iterations_left : State → ℕ → Watching → ℕ
 iterations_left c backtracks s = (1001 * (c.budget - c.conflicts) + backtracks) * (s.variables + 1)
     + (s.variables - length s.trail)

@@ -1,12 +1,12 @@
 -- What contracts see of a search, and the steps that it puts.
 
-use Rattle.std.specs.Prelude.{◌≡◌, ℕ, ◌+◌, ◌-◌, ◌⊎◌, Bool, false, Option, None, Some, Result, Err, IfErr, OnOk, List, [], ◌∷◌, ◌++◌, ◌<◌, All, length, get_or, map}
+use Rattle.std.specs.Prelude.{◌≡◌, ℕ, ◌+◌, ◌-◌, ◌⊎◌, Bool, false, Option, None, Some, Result, Err, IfErr, OnOk, List, [], ◌∷◌, ◌++◌, ◌<◌, ◌≤◌, All, length, get_or, map}
 use Rattle.ba_lits.specs.Formulas.{Cnf}
 use Rattle.ba_lits.specs.Literals.{Literal}
 use Rattle.ba_watch.specs.Threads.{Clause}
 use Rattle.ba_watch.specs.Propagation.{clause_in}
 use Rattle.ba_learn.specs.Live.{AreLive, HaveDistinctNumbers, IsSame, IsNew}
-use Rattle.ba_steps.specs.Sinks.{HasFault, Logs}
+use Rattle.ba_steps.specs.Sinks.{HasFault, Told}
 use Rattle.ba_steps.specs.Steps.{IsFormed}
 use Rattle.ba_steps.specs.declared.step.CertStep.{CertStep}
 use Rattle.ba_steps.specs.declared.step.CertStep.TheVariants.{Learn, Delete}
@@ -19,9 +19,9 @@ use Rattle.ba_search.specs.Answers.{AreAssumptions}
 use Rattle.ba_search.specs.declared.search.SearchError.{SearchError}
 use Rattle.ba_search.specs.declared.search.SearchError.TheVariants.{SinkFailed}
 
--- a search between calls: its variables, its live clauses by reference, the numbers of the clauses that it has learnt, in
--- their order and the deleted ones too, its rules, the error that it answers from now on, and how many literals propagation
--- has assigned
+-- a search between calls: its variables, its live clauses by reference, the numbers of the clauses that it
+-- has learnt, in their order and the deleted ones too, its rules, the error that it answers from now on, and
+-- how many literals propagation has assigned
 pub record Searching (R : Type 0) : Type 0 where
   pub variables : ℕ
   pub clauses : List (Option Clause)
@@ -30,7 +30,8 @@ pub record Searching (R : Type 0) : Type 0 where
   pub failure : Option SearchError
   pub propagated : ℕ
 
--- a search starts: it has the clauses of the formula, with numbers from 1 on, has learnt none and answered no error
+-- a search starts: it has the clauses of the formula, with numbers from 1 on, has learnt none and answered no
+-- error
 pub record Starts {R : Type 0} (formula : Cnf) (search : Searching R) : Type 0 where
   pub clauses : AreLive search.clauses (clause_at (map (kept Given) formula.clauses))
   pub variables : search.variables ≡ formula.variables
@@ -39,7 +40,8 @@ pub record Starts {R : Type 0} (formula : Cnf) (search : Searching R) : Type 0 w
   pub fresh : search.failure ≡ None
   pub propagated : search.propagated ≡ 0
 
--- each live clause of a search is a live clause of the checker with the same number, its literals in some order
+-- each live clause of a search is a live clause of the checker with the same number, its literals in some
+-- order
 abbrev pub ArePart : List (Option Clause) → (ℕ → Option (List Literal)) → Type 0
 ArePart clauses live = (reference : ℕ) (c : Clause) → clause_in clauses reference ≡ Some c →
     IsSame (live c.number) c.lits
@@ -56,9 +58,10 @@ pub record IsDiscarded (gives : ℕ → ℕ → Bool →
   pub at : get_or learnt place 0 ≡ number
   pub rule : gives (width_at s.clauses number) (length learnt - 1 - place) false
 
--- Learn and Delete steps lead from one state of a checker to another, while the numbers of the learnt clauses grow: each
--- step has the form that its text asks for and is allowed; each learnt clause is new to propagation for the clauses that are
--- live at that moment; each clause that is deleted was discarded by the keep rule
+-- Learn and Delete steps lead from one state of a checker to another, while the numbers of the learnt clauses
+-- grow: each step has the form that its text asks for and is allowed; each learnt clause is new to
+-- propagation for the clauses that are live at that moment; each clause that is deleted was discarded by the
+-- keep rule
 pub data Searches (good : Judge) (gives : ℕ → ℕ → Bool → Type 0) : State → List ℕ → List CertStep → State →
     List ℕ → Type 0 where
   searches_none : (s : State) (learnt : List ℕ) → Searches good gives s learnt [] s learnt
@@ -74,55 +77,57 @@ pub data Searches (good : Judge) (gives : ℕ → ℕ → Bool → Type 0) : Sta
       Searches good gives (after s (Delete numbers)) learnt steps t all →
       Searches good gives s learnt (Delete numbers ∷ steps) t all
 
--- what such steps leave between two states of a checker with their logs, also after an error, whatever was learnt
-abbrev pub LeavesBetween : Judge → (ℕ → ℕ → Bool → Type 0) → List ℕ → State → Logs → State → Logs → Type 0
-LeavesBetween good gives learnt old old_logs new new_logs =
-    LeavesSteps (λ steps t. (all : List ℕ) × Searches good gives old learnt steps t all) old_logs new new_logs
-
+-- what such steps leave, also after an error, whatever was learnt
 abbrev pub Leaves : (ℕ → ℕ → Bool → Type 0) → List ℕ → Checking → Checking → Type 0
 Leaves gives learnt old new =
-    LeavesBetween old.accepts gives learnt old.checker old.told.logs new.checker new.told.logs
+    LeavesSteps (λ steps t. (all : List ℕ) × Searches old.accepts gives old.checker learnt steps t all)
+    old.told.logs new.checker new.told.logs
 
 -- such steps were put, while the numbers of the learnt clauses grew to these
-abbrev pub PutsBetween : Judge → (ℕ → ℕ → Bool → Type 0) → State → State → List ℕ → List ℕ → Logs → Logs → Type 0
-PutsBetween good gives old new learnt all old_logs new_logs =
-    PutsSteps (λ steps. Searches good gives old learnt steps new all) old_logs new_logs
-
 abbrev pub Puts : (ℕ → ℕ → Bool → Type 0) → List ℕ → List ℕ → Checking → Checking → Type 0
 Puts gives learnt all old new =
-    PutsBetween old.accepts gives old.checker new.checker learnt all old.told.logs new.told.logs
+    PutsSteps (λ steps. Searches old.accepts gives old.checker learnt steps new.checker all)
+    old.told.logs new.told.logs
 
--- what a call leaves besides its steps: the log lasts; the sink failed only where its faults rose; and where the call
--- succeeds no step was refused
+-- a sink that fails has had a fault
+abbrev pub IsCaused : {X : Type 0} → Result X SearchError → Told → Told → Type 0
+IsCaused result old new = result ≡ Err SinkFailed → HasFault old new
+
+-- what a call leaves besides its steps: the log lasts; the sink failed only where its faults rose; and where
+-- the call succeeds no step was refused
 pub record Ran {X : Type 0} (result : Result X SearchError) (old new : Checking) : Type 0 where
   pub lasts : Lasts old new
-  pub cause : result ≡ Err SinkFailed → HasFault old.told new.told
+  pub cause : IsCaused result old.told new.told
   pub fresh : OnOk result (new.refusal ≡ None)
 
--- the same of a call of a search, which keeps its rules: the sink failed only where its faults rose, or where the search had
--- answered so before
+-- the same of a call of a search, which keeps its rules, and whose count of propagations doesn't fall: the
+-- sink failed only where its faults rose, or where the search had answered so before
 pub record RanSearch {R X : Type 0} (result : Result X SearchError) (before after : Searching R)
     (old new : Checking) : Type 0 where
   pub lasts : Lasts old new
   pub cause : result ≡ Err SinkFailed → (before.failure ≡ Some SinkFailed) ⊎ HasFault old.told new.told
   pub rules_stay : after.rules ≡ before.rules
+  pub propagated : before.propagated ≤ after.propagated
 
--- a search may go on with a log: neither answers an error from now on, and the live clauses of both are the same
+-- a search may go on with a log: neither answers an error from now on, and the live clauses of both are the
+-- same
 pub record MayGoOn {R : Type 0} (search : Searching R) (log : Checking) : Type 0 where
   pub working : search.failure ≡ None
   pub fresh : log.refusal ≡ None
   pub same : AreLive search.clauses (clause_at log.checker.clauses)
 
--- a search may be asked for a model under assumptions: no error is answered from now on, the live clauses are the checker's,
--- which has not ended, and the assumptions are of different variables of it
-pub record MaySolve {R : Type 0} (assumptions : List Literal) (search : Searching R) (log : Checking) : Type 0 where
-  pub same : AreLive search.clauses (clause_at log.checker.clauses)
-  pub begun : log.checker.ended ≡ false
-  pub awake : log.checker.refused ≡ false
-  pub fresh : log.refusal ≡ None
-  pub may_assume : AreAssumptions log.checker.variables assumptions
+-- a search may be asked for a model under assumptions: no error is answered from now on, the live clauses are
+-- the checker's, which has not ended, and the assumptions are of different variables of it
+pub record MaySolve {R : Type 0} (assumptions : List Literal) (search : Searching R) (log : Checking) : Type 0
+  where
+    pub same : AreLive search.clauses (clause_at log.checker.clauses)
+    pub begun : log.checker.ended ≡ false
+    pub awake : log.checker.refused ≡ false
+    pub fresh : log.refusal ≡ None
+    pub may_assume : AreAssumptions log.checker.variables assumptions
 
--- a search was asked for a model: it may go on, its clauses have different numbers, and the checker has not ended
+-- a search was asked for a model: it may go on, its clauses have different numbers, and the checker has not
+-- ended
 pub record HasSolved {R : Type 0} (search : Searching R) (log : Checking) : Type 0 where
   pub goes_on : MayGoOn search log
   pub alone : HaveDistinctNumbers search.clauses
@@ -130,10 +135,11 @@ pub record HasSolved {R : Type 0} (search : Searching R) (log : Checking) : Type
   pub awake : log.checker.refused ≡ false
 
 -- an error is kept, and answered from then on
-pub record KeepsError {R X : Type 0} (result : Result X SearchError) (before after : Searching R) : Type 0 where
-  pub fresh : OnOk result (before.failure ≡ None)
-  pub keeps : IfErr result (λ error. after.failure ≡ Some error)
-  pub again : (error : SearchError) → before.failure ≡ Some error → (result ≡ Err error) × (after ≡ before)
+pub record KeepsError {R X : Type 0} (result : Result X SearchError) (before after : Searching R) : Type 0
+  where
+    pub fresh : OnOk result (before.failure ≡ None)
+    pub keeps : IfErr result (λ error. after.failure ≡ Some error)
+    pub again : (error : SearchError) → before.failure ≡ Some error → (result ≡ Err error) × (after ≡ before)
 
 -- the rules, what was learnt and the count of propagations stay
 pub record StaysIdle {R : Type 0} (before after : Searching R) : Type 0 where

@@ -6,7 +6,7 @@ ghost use Rattle.ba_watch.specs.Trails.{value_of, decided};
 ghost use Rattle.ba_watch.specs.Propagation.{clause_in, lits_in, is_false, IsComplete};
 ghost use Rattle.ba_checker.specs.States.{State, clause_at};
 ghost use Rattle.ba_search.specs.Answers.{AreAssumptions, IsAnswer};
-ghost use Rattle.ba_search.specs.Engines.{GoesOn, IsAtWork, IsConflict, LearnsNothing, MaySearch, left_in};
+ghost use Rattle.ba_search.specs.Engines.{ComesTo, GoesOn, IsAtWork, IsConflict, LearnsNothing, MaySearch, left_in};
 ghost use Rattle.ba_search.specs.Searching.{Leaves, Puts, Ran};
 ghost use Rattle.ba_search.specs.Iterations.{IsUnderway, iterations_left};
 ghost use Rattle.ba_learn.specs.Live.{AreLive};
@@ -68,10 +68,8 @@ impl Engine {
         requires underway { IsAtWork assumptions.now self.old (L.log log.old) }
         requires fresh { (L.log log.old).refusal ≡ None }
         requires assumptions { AreAssumptions (L.log log.old).checker.variables assumptions.now }
-        ensures answer { IfOk result (λ found.
-            IfSome found (IsAnswer (L.log log.new).checker assumptions.now)) }
-        ensures less { IfOk result (λ found.
-            IfNone found (left_in self.new (L.log log.new) < left_in self.old (L.log log.old))) }
+        ensures comes { IfOk result (ComesTo assumptions.now
+            (L.log log.old) self.old (L.log log.new) self.new) }
         ensures goes_on { OnOk result (GoesOn (R.keeping rules.now) assumptions.now
             (L.log log.old) (L.log log.new) self.old self.new) }
         ensures ran { Ran result (L.log log.old) (L.log log.new) }

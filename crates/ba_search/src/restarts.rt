@@ -27,7 +27,8 @@ impl Engine {
         requires left { 1 ≤ self.old.backtracks_left }
         requires underway { IsAtWork assumptions.now self.old (L.log log.old) }
         requires fresh { (L.log log.old).refusal ≡ None }
-        ensures less { OnOk result (left_in self.new (L.log log.new) < left_in self.old (L.log log.old)) }
+        ensures less { OnOk result
+            (left_in self.new (L.log log.new) < left_in self.old (L.log log.old)) }
         ensures goes_on { OnOk result (GoesOn (R.keeping rules.now) assumptions.now
             (L.log log.old) (L.log log.new) self.old self.new) }
         ensures ran { Ran result (L.log log.old) (L.log log.new) }
@@ -68,8 +69,8 @@ impl Engine {
         requires fresh { (L.log log.old).refusal ≡ None }
         ensures goes_on { OnOk result (GoesOn (R.keeping rules.now) assumptions.now
             (L.log log.old) (L.log log.new) self.old self.new) }
-        ensures backtracks { self.new.backtracks_left ≡ self.old.backtracks_left }
-        ensures counts { OnOk result (CountsNone (L.log log.old) (L.log log.new) self.old self.new) }
+        ensures counts { OnOk result
+            (CountsNone (L.log log.old) (L.log log.new) self.old self.new) }
         ensures ran { Ran result (L.log log.old) (L.log log.new) }
         ensures propagated { self.new.propagated ≡ self.old.propagated }
         ensures leaves { Leaves (R.keeping rules.now) self.old.numbers.learnt

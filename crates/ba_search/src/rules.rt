@@ -14,7 +14,7 @@ pub trait SearchRules {
     /// How many conflicts come before the next restart, by the number of restarts so far.
     fn restart(&self, restarts: u64) -> u64
         requires { are_rules self.now }
-        ensures { 1 ≤ result };
+        ensures positive { 1 ≤ result };
 
     /// Whether a learnt clause is kept, by its width, how many literals it has, and its age, how many clauses the search
     /// has learnt after it. Clauses of at most two literals are kept.
@@ -40,7 +40,8 @@ impl<R: Fn(u64) -> u64, K: Fn(u64, u64) -> bool> SearchRules for RulesBy<R, K> {
     fn restart(&self, restarts: u64) -> u64
         requires { IsRestartRule (R.pre self.now.restart) (R.post self.now.restart)
             × IsKeepRule (K.pre self.now.keep) (K.post self.now.keep) }
-        ensures { 1 ≤ result }
+        ensures rule { R.post self.now.restart restarts result }
+        ensures positive { 1 ≤ result }
     {
         (self.restart)(restarts)
     }

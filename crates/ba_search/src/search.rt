@@ -203,7 +203,6 @@ impl<R: SearchRules + Drop> Search<R> {
         ensures ran { RanSearch result self.old self.new (L.log log.old) (L.log log.new) }
         ensures keeps { KeepsError result self.old self.new }
         ensures again { IsSome self.old.failure → log.new ≡ log.old }
-        ensures propagated { self.old.propagated ≤ self.new.propagated }
     {
         if let Some(failure) = self.failure {
             return Err(failure);

@@ -3,13 +3,14 @@
 use Rattle.std.proofs.Common.{◌≡◌, ◌∙◌, inl, inr, ℕ, ◌+◌, ◌-◌, ◌^◌, ◌<◌, ◌≤◌, min, true, Option, None, Some, option_map, IfSome, List, [], ◌++◌, length, take, Result, Ok, Err, IfErr, refl, sym, ap, subst, length-append, length-take-le, append-nil, arith}
 use Rattle.std.specs.Result.{IsErrAnd}
 use Rattle.ba_cert.specs.declared.head.CertHead.{CertHead}
-use Rattle.ba_check.specs.Answers.{IsTrueOf, Tells, TellsRefusal, confirmed_of}
+use Rattle.ba_check.specs.Answers.{IsTrueOf, Tells, confirmed_of}
 use Rattle.ba_check.specs.Findings.{Accepted, Finding, Refused, finding_of, first_refused}
 use Rattle.ba_check.specs.Lines.{lines_in}
 use Rattle.ba_check.specs.Readings.{Confirming, HasRead}
 use Rattle.ba_check.specs.declared.confirmed.Confirmed.{Confirmed}
 use Rattle.ba_check.specs.declared.error.CheckError.{CheckError}
 use Rattle.ba_check.specs.declared.error.CheckError.TheVariants.{Line, Memory}
+use Rattle.ba_check.proofs.CourseLaws.{TellsRefusal}
 use Rattle.ba_commands.specs.Modes.{Word}
 use Rattle.ba_derivations.specs.Derivations.{Problem, Verdict}
 use Rattle.ba_world.specs.Read.{IsReadTo, IsReadWhole, RoseBy, piece_size, read_error}

@@ -6,6 +6,7 @@ use Rattle.std.proofs.lemmas.Bool.{and_parts}
 use Rattle.std.proofs.lemmas.Slice.Eq.{bytes_eq-Decides}
 use Rattle.ba_cert.specs.Certificates.{steps_from}
 use Rattle.ba_cert.specs.Writing.{is_named, is_sound, is_written, may_be_named, steps_at}
+use Rattle.ba_cert.proofs.SinkLaws.{sound-written}
 use Rattle.ba_choices.specs.Judges.{Judge}
 use Rattle.ba_checker.specs.Judging.{after_all}
 use Rattle.ba_checker.specs.Puts.{LeavesSteps}
@@ -77,8 +78,7 @@ none_first log (Some bytes) is =
 -- a file that is being written, as a certificate knows it
 pub sound_writes : (h : CertHead) (whole : Bool) (name : Word) (o : Outside) →
     is_sound h whole name o ≡ true → IsWriting name o
-unfolding is_sound
-sound_writes h whole name o e = by o.is_writing o.writing (o.kept name) e
+sound_writes h whole name o e = by o.is_writing o.writing (o.kept name) (sound-written h whole name o e)
   where
     named : (writing : Option Word) → is_named name writing ≡ true → IfSome writing (λ w. w ≡ name)
     named None e = tt

@@ -1,7 +1,7 @@
 -- A CALL of the program: how its answer comes from the words and the files, what it hands to the sink of
 -- steps, and what it leaves of the outside.
 
-use Rattle.std.specs.Prelude.{◌≡◌, ◌⊎◌, ℕ, ◌+◌, ◌*◌, ◌^◌, ◌<◌, ◌≤◌, true, Option, None, Some, IfSome, IsSome, List, [], ◌∷◌, map, length}
+use Rattle.std.specs.Prelude.{◌≡◌, ◌⊎◌, ℕ, ◌+◌, ◌*◌, ◌^◌, ◌<◌, ◌≤◌, true, Option, None, Some, IfSome, IsSome, Result, Err, IfOk, List, [], ◌∷◌, map, length}
 use denote.Ref.{Bor}
 use Rattle.ba_cert.specs.declared.head.CertHead.{CertHead}
 use Rattle.ba_cert.specs.Text.{text_of as certificate_of}
@@ -10,7 +10,9 @@ use Rattle.ba_commands.specs.Modes.{Word}
 use Rattle.ba_derivations.specs.Encodings.{IsFaithful}
 use Rattle.ba_localise.specs.Verdicts.{Derivation, Hands, LeavesDerivation, problem_of}
 use Rattle.ba_numbers.specs.declared.ids.At.{At}
-use Rattle.ba_steps.specs.Sinks.{Told, with_told}
+use Rattle.ba_search.specs.declared.search.SearchError.{SearchError}
+use Rattle.ba_search.specs.declared.search.SearchError.TheVariants.{SinkFailed}
+use Rattle.ba_steps.specs.Sinks.{Outlasts, Told, with_told}
 use Rattle.ba_steps.specs.declared.sink.Basis.{Basis}
 use Rattle.ba_steps.specs.declared.step.CertStep.{CertStep}
 use Rattle.ba_world.specs.Read.{piece_size}
@@ -283,6 +285,39 @@ pub data Stops (r : Request) (before after : Outside) (t u : Told) : Type 0 wher
   in_job : (j : Job) (x : Texts) (read : Outside) → r ≡ request.Wanted j → AreRead j x before read →
       StopsWith j x read after t u → Stops r before after t u
 
+-- WHERE A PART OF A CALL ENDS, by an answer or by an error: this holds of the answer; that is left in any
+-- case; where the sink failed, there was this fault; and the sink writes where it wrote, and its count of
+-- faults does not fall
+pub record Ends (answers : Answer → Type 0) (leaves fault : Type 0) (t u : Told)
+    (result : Result Answer SearchError) : Type 0
+  where
+    pub answer : IfOk result answers
+    pub left : leaves
+    pub cause : result ≡ Err SinkFailed → fault
+    pub outlasts : Outlasts t u
+
+-- a search over a case
+abbrev pub SearchEnds : Job → Texts → Program → Told → Told → Result Answer SearchError → Type 0
+SearchEnds j x p t u =
+    Ends (HandsAnswer j x t u) (LeavesPart j x p t u) (Rose t.faults u.faults) t u
+
+-- the same, which writes the certificate, if one is named
+abbrev pub CaseEnds :
+    Job → Texts → Program → Option Word → Outside → Outside → Told → Told → Result Answer SearchError → Type 0
+CaseEnds j x p name before after t u = Ends (Concludes j x name before after t u)
+    (SearchLeaves j x p name before after t u) (HasHandFault name before after t u) t u
+
+-- a job whose files have these texts
+abbrev pub TextsEnd :
+    Job → Texts → Outside → Outside → Told → Told → Result Answer SearchError → Type 0
+TextsEnd j x before after t u = Ends (Proceeds j x before after t u) (StopsWith j x before after t u)
+    (HasHandFault (written_by j.task j.cert) before after t u) t u
+
+-- a request
+abbrev pub RequestEnds : Request → Outside → Outside → Told → Told → Result Answer SearchError → Type 0
+RequestEnds r before after t u = Ends (Comes r before after t u) (Stops r before after t u)
+    (HasHandFault (cert_of r) before after t u) t u
+
 -- A CALL COMES TO AN ANSWER, and from then on only prints
 pub record ComesTo (c : Call) (a : Answer) : Type 0 where
   pub written : Outside
@@ -307,6 +342,13 @@ HandFails c = HasHandFault (cert_of (request_of c.words)) c.before c.after c.tol
 
 abbrev pub HasFault : Call → Type 0
 HasFault c = HasWriteFault c.before c.after ⊎ HandFails c
+
+-- a text was printed, and the call ends with this status; or a fault of writing rose in printing it; or there
+-- was no memory to print it
+abbrev pub IsPrinted : List ℕ → Status → Outside → Outside → Status → Type 0
+IsPrinted text wanted before after result = ((result ≡ wanted) × Prints before after text)
+    ⊎ ((result ≡ status.WriteFault) × HasWriteFault before after)
+    ⊎ ((result ≡ status.Memory) × HasPrintShortage before after)
 
 -- the text of an answer was printed, and the call ends with its status; or a fault of writing rose in
 -- printing it; or there was no memory to make it, or to print it
@@ -511,15 +553,12 @@ pub record EndsWhere (c : Call) (result : Status) : Type 0 where
   -- a search for the least sets of a program that fails comes to an end
   pub failing : TellsFailing (request_of c.words) c.before → EndsWith c IsEndOfSearch result
   -- a sample comes to an end: with its least sets, or with that its conflicts are spent
-  pub sample : (additions : ℕ) → request_of c.words ≡ request.Sample additions → EndsWith c IsEndOfSample result
-  -- a check comes to an end, by what the world tells of its certificate; which it is of accepted and refused, and where,
-  -- `Says` tells: over the formula that was handed to the sink
+  pub sample : (additions : ℕ) → request_of c.words ≡ request.Sample additions → EndsWith c IsEndOfSample
+      result
+  -- a check comes to an end, by what the world tells of its certificate; which it is of accepted and refused,
+  -- and where, `Says` tells: over the formula that was handed to the sink
   pub checking : (name : Word) (file : Option (List ℕ)) → TellsCheck (request_of c.words) c.before name
       → c.before.held name ≡ Some file → EndsWith c (IsEndOfCheck file) result
-
--- no more bytes are given than so many
-abbrev pub GivesAtMost : ℕ → Outside → Outside → Type 0
-GivesAtMost most before after = after.given ≤ before.given + most
 
 -- WHAT IS ASKED OF A JOB, and of its texts
 
@@ -546,7 +585,8 @@ pub record IsCheck (j : Job) (a : Case) : Type 0 where
   pub fits : fits a.program a.input ≡ true
   pub weights : AreWeightsOf a.program a.weights.of
 
--- a certificate of this name and these settings is begun where the outside and the faults of the sink are these
+-- a certificate of this name and these settings is begun where the outside and the faults of the sink are
+-- these
 pub record Starts (name : Word) (head : CertHead) (outside : Outside) (faults : ℕ)
     (start_name : Word) (start_head : CertHead) (start_outside : Outside) (start_faults : ℕ) : Type 0 where
   pub named : name ≡ start_name

@@ -6,14 +6,15 @@ ghost use Rattle.ba_check.specs.Readers.{seen};
 ghost use Rattle.ba_check.specs.Readings.{HasRead};
 ghost use Rattle.ba_derivations.specs.Derivations.{Verdict};
 ghost use Rattle.ba_derivations.specs.Encodings.{IsFaithful};
-ghost use Rattle.ba_search.specs.declared.search.SearchError.{SearchError};
-ghost use Rattle.ba_steps.specs.Sinks.{HasFault, Outlasts};
+ghost use Rattle.ba_search.specs.Searching.{IsCaused};
+ghost use Rattle.ba_steps.specs.Sinks.{Outlasts};
 ghost use Rattle.ba_world.specs.Read.{piece_size};
 ghost use Rattle.ba_world.specs.World.{OnlyReads, Outside};
-ghost use Rattle.ba_tool.specs.Calls.{CheckLeaves, ConcludesCheck, GivesAtMost, IsCheck};
+ghost use Rattle.ba_tool.specs.Calls.{CheckLeaves, ConcludesCheck, IsCheck};
 ghost use Rattle.ba_tool.specs.Cases.{IsCaseOf};
 ghost use Rattle.ba_tool.specs.Certificates.{CertificateComesTo, IsFed, IsUnfed, Judging, claim_of, unfed_answer};
 ghost use Rattle.ba_answers.specs.Limits.{certificate_limit};
+ghost use Rattle.ba_jobs.specs.Files.{GivesAtMost};
 ghost use Rattle.ba_jobs.specs.declared.files.Texts.{Texts};
 
 use crate::judge::Case;
@@ -182,8 +183,7 @@ where
         (W.outside world.old) (W.outside world.new) (D.told steps.old) (D.told steps.new) answer) }
     ensures leaves { (x : Texts) → IsCaseOf x case.now → CheckLeaves job.now x case.now.program
         (D.told steps.old) (D.told steps.new) }
-    ensures cause { result ≡ Err SearchError.SinkFailed
-        → HasFault (D.told steps.old) (D.told steps.new) }
+    ensures cause { IsCaused result (D.told steps.old) (D.told steps.new) }
     ensures bounded { GivesAtMost (certificate_limit + piece_size)
         (W.outside world.old) (W.outside world.new) }
     ensures stays { OnlyReads (W.outside world.old) (W.outside world.new) }

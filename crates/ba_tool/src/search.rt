@@ -1,14 +1,13 @@
 //! The search for the least sets of a program that fails.
 
-ghost use Rattle.std.specs.Prelude.{◌≡◌, ◌⊎◌, ◌<◌, ◌^◌, true, [], Err, IfOk, OnOk, Some, option_map};
+ghost use Rattle.std.specs.Prelude.{◌≡◌, ◌⊎◌, ◌<◌, ◌^◌, true, [], Err, IfOk, OnOk, Some};
 ghost use Rattle.ba_cert.specs.Text.{text_of as certificate_of};
-ghost use Rattle.ba_cert.specs.Writing.{HoldsPrefix, IsUnbegun, is_sound, steps_at};
+ghost use Rattle.ba_cert.specs.Writing.{HasNoStep, HoldsPrefix, IsUnbegun, is_sound};
 ghost use Rattle.ba_world.specs.World.{HasWriteFault};
 ghost use Rattle.ba_derivations.specs.declared.verdict.Verdict.{Verdict};
 ghost use Rattle.ba_search.specs.declared.search.SearchError.{SearchError};
-ghost use Rattle.ba_steps.specs.Sinks.{HasFault, Outlasts};
 ghost use Rattle.ba_tool.specs.Answers.{Tells};
-ghost use Rattle.ba_tool.specs.Calls.{Begins, Concludes, HandsAnswer, HasHandFault, IsSearch, LeavesPart, LeavesWritten, SearchLeaves, Starts, head_by};
+ghost use Rattle.ba_tool.specs.Calls.{Begins, CaseEnds, IsSearch, SearchEnds, Starts, head_by};
 ghost use Rattle.ba_answers.specs.declared.answers.Answer.{Answer};
 ghost use Rattle.ba_jobs.specs.declared.jobs.Job.{Job};
 
@@ -75,13 +74,8 @@ fn locate<D: StepSink + Drop, R: SearchRules + Drop>(
 ) -> Result<Answer, SearchError>
     requires search { IsSearch job.now texts.now case.now }
     requires rules { R.are_rules rules }
-    ensures answer { IfOk result (λ answer. HandsAnswer job.now texts.now
-        (D.told steps.old) (D.told steps.new) answer) }
-    ensures leaves { LeavesPart job.now texts.now case.now.program
-        (D.told steps.old) (D.told steps.new) }
-    ensures cause { result ≡ Err SearchError.SinkFailed
-        → HasFault (D.told steps.old) (D.told steps.new) }
-    ensures outlasts { Outlasts (D.told steps.old) (D.told steps.new) }
+    ensures { SearchEnds job.now texts.now case.now.program
+        (D.told steps.old) (D.told steps.new) result }
 {
     let verdict = localise(
         alloc,
@@ -120,8 +114,7 @@ fn begin<W: World>(
 ) -> Result<(), SearchError>
     requires countable { head.now.conflicts < 2 ^ 62 }
     ensures sound { OnOk result (is_sound head.now true name.now (W.outside world.new) ≡ true) }
-    ensures no_step { OnOk result (steps_at head.now name.now (W.outside world.new)
-        ≡ option_map (λ _. []) ((W.outside world.new).kept name.now)) }
+    ensures no_step { OnOk result (HasNoStep head.now name.now (W.outside world.new)) }
     ensures begins { Begins head.now name.now (W.outside world.old) (W.outside world.new) }
     ensures empty { IsUnbegun name.now (W.outside world.old) (W.outside world.new)
         ⊎ HoldsPrefix name.now (certificate_of head.now []) (W.outside world.new) }
@@ -160,14 +153,8 @@ where
         (D.told steps.old).faults S.name S.head S.outside S.faults }
     requires search { IsSearch job.now texts.now case.now }
     requires rules { R.are_rules rules }
-    ensures answer { IfOk result (λ answer. Concludes job.now texts.now (Some name.now)
-        (W.outside world.old) (W.outside world.new) (D.told steps.old) (D.told steps.new) answer) }
-    ensures begins { Begins (head_by job.now) name.now (W.outside world.old) (W.outside world.new) }
-    ensures leaves { LeavesWritten job.now texts.now case.now.program name.now
-        (W.outside world.old) (W.outside world.new) (D.told steps.old) (D.told steps.new) }
-    ensures cause { result ≡ Err SearchError.SinkFailed
-        → HasHandFault (Some name.now) (W.outside world.old) (W.outside world.new) (D.told steps.old) (D.told steps.new) }
-    ensures outlasts { Outlasts (D.told steps.old) (D.told steps.new) }
+    ensures { CaseEnds job.now texts.now case.now.program (Some name.now)
+        (W.outside world.old) (W.outside world.new) (D.told steps.old) (D.told steps.new) result }
 {
     let head = head_by(job);
     begin(alloc, world, name.as_str(), &head)?;
@@ -203,13 +190,8 @@ where
     R: SearchRules + Drop,
     requires search { IsSearch job.now texts.now case.now }
     requires rules { R.are_rules rules }
-    ensures answer { IfOk result (λ answer. Concludes job.now texts.now job.now.cert
-        (W.outside world.old) (W.outside world.new) (D.told steps.old) (D.told steps.new) answer) }
-    ensures leaves { SearchLeaves job.now texts.now case.now.program job.now.cert
-        (W.outside world.old) (W.outside world.new) (D.told steps.old) (D.told steps.new) }
-    ensures cause { result ≡ Err SearchError.SinkFailed
-        → HasHandFault job.now.cert (W.outside world.old) (W.outside world.new) (D.told steps.old) (D.told steps.new) }
-    ensures outlasts { Outlasts (D.told steps.old) (D.told steps.new) }
+    ensures { CaseEnds job.now texts.now case.now.program job.now.cert
+        (W.outside world.old) (W.outside world.new) (D.told steps.old) (D.told steps.new) result }
 {
     match &job.cert {
         Some(name) => certify::<Brand, W, D, R>(alloc, world, name, job, texts, case, rules, steps),

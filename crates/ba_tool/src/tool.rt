@@ -1,13 +1,13 @@
 //! The top call of the program.
 
-ghost use Rattle.std.specs.Prelude.{◌≡◌, ◌⊎◌, ◌+◌, ◌*◌, ◌≤◌, Err, IfOk};
+ghost use Rattle.std.specs.Prelude.{◌≡◌, ◌+◌, ◌*◌, ◌≤◌};
 ghost use Rattle.ba_jobs.specs.Rules.{AreJobRules};
-ghost use Rattle.ba_search.specs.declared.search.SearchError.{SearchError};
 ghost use Rattle.ba_world.specs.Read.{piece_size};
-ghost use Rattle.ba_world.specs.World.{HasPrintShortage, HasWriteFault, OnlyPrints, Prints, PrintsPrefix};
-ghost use Rattle.ba_tool.specs.Calls.{AreShort, Comes, EndsWhere, GivesAtMost, HasHandFault, IsShown, MayBeDone, Proceeds, Says, Stops, StopsWith, WritesOnly, answer_for, asked_by, call, most_given, most_of};
+ghost use Rattle.ba_world.specs.World.{OnlyPrints, PrintsPrefix};
+ghost use Rattle.ba_tool.specs.Calls.{AreShort, EndsWhere, IsPrinted, IsShown, MayBeDone, RequestEnds, Says, TextsEnd, WritesOnly, answer_for, asked_by, call, most_given, most_of};
 ghost use Rattle.ba_answers.specs.Limits.{limit};
-ghost use Rattle.ba_jobs.specs.Jobs.{cert_of, steady_of, written_by};
+ghost use Rattle.ba_jobs.specs.Files.{GivesAtMost};
+ghost use Rattle.ba_jobs.specs.Jobs.{cert_of, steady_of};
 ghost use Rattle.ba_answers.specs.Printed.{text_of};
 ghost use Rattle.ba_answers.specs.declared.answers.Answer.{Answer};
 ghost use Rattle.ba_jobs.specs.declared.jobs.Request.{Request};
@@ -20,9 +20,9 @@ use ba_answers::answers::Answer;
 use ba_answers::status::Status;
 use ba_jobs::files::{Texts, Unread, read_texts};
 use ba_jobs::jobs::{Job, Request, read_request, sample_job};
-use ba_jobs::rules::{JobRules, Rules};
+use ba_jobs::rules::Rules;
 use ba_jobs::samples::sample_texts;
-use ba_search::{SearchError, SearchRules};
+use ba_search::{RulesBy, SearchError, SearchRules};
 use ba_steps::StepSink;
 use ba_world::{ReadFileError, World, WorldError};
 use std::alloc::Global;
@@ -58,15 +58,10 @@ where
     requires short { AreShort texts.now }
     requires job { MayBeDone job.now }
     requires rules { R.are_rules rules }
-    ensures answer { IfOk result (λ answer. Proceeds job.now texts.now
-        (W.outside world.old) (W.outside world.new) (D.told steps.old) (D.told steps.new) answer) }
-    ensures stops { StopsWith job.now texts.now
-        (W.outside world.old) (W.outside world.new) (D.told steps.old) (D.told steps.new) }
-    ensures cause { result ≡ Err SearchError.SinkFailed
-        → HasHandFault (written_by job.now.task job.now.cert)
-        (W.outside world.old) (W.outside world.new) (D.told steps.old) (D.told steps.new) }
-    ensures bounded { GivesAtMost (most_of job.now.task) (W.outside world.old) (W.outside world.new) }
-    ensures outlasts { Outlasts (D.told steps.old) (D.told steps.new) }
+    ensures ends { TextsEnd job.now texts.now
+        (W.outside world.old) (W.outside world.new) (D.told steps.old) (D.told steps.new) result }
+    ensures bounded { GivesAtMost (most_of job.now.task)
+        (W.outside world.old) (W.outside world.new) }
 {
     match judge(alloc, job, texts)? {
         Judged::Answered(answer) => Ok(answer),
@@ -92,16 +87,10 @@ where
     R: SearchRules + Drop,
     requires job { MayBeDone job.now }
     requires rules { R.are_rules rules }
-    ensures answer { IfOk result (λ answer. Comes (Request.Wanted job.now)
-        (W.outside world.old) (W.outside world.new) (D.told steps.old) (D.told steps.new) answer) }
-    ensures stops { Stops (Request.Wanted job.now)
-        (W.outside world.old) (W.outside world.new) (D.told steps.old) (D.told steps.new) }
-    ensures cause { result ≡ Err SearchError.SinkFailed
-        → HasHandFault (cert_of (Request.Wanted job.now))
-        (W.outside world.old) (W.outside world.new) (D.told steps.old) (D.told steps.new) }
+    ensures ends { RequestEnds (Request.Wanted job.now)
+        (W.outside world.old) (W.outside world.new) (D.told steps.old) (D.told steps.new) result }
     ensures bounded { (W.outside world.new).given
         ≤ (W.outside world.old).given + (3 * (limit + piece_size) + most_of job.now.task) }
-    ensures outlasts { Outlasts (D.told steps.old) (D.told steps.new) }
 {
     match read_texts(alloc, world, job) {
         Ok(texts) => texts_answer(alloc, world, job, &texts, steps, rules),
@@ -128,15 +117,9 @@ where
     R: SearchRules + Drop,
     requires few { additions ≤ 500 }
     requires rules { R.are_rules rules }
-    ensures answer { IfOk result (λ answer. Comes (Request.Sample additions)
-        (W.outside world.old) (W.outside world.new) (D.told steps.old) (D.told steps.new) answer) }
-    ensures stops { Stops (Request.Sample additions)
-        (W.outside world.old) (W.outside world.new) (D.told steps.old) (D.told steps.new) }
-    ensures cause { result ≡ Err SearchError.SinkFailed
-        → HasHandFault (cert_of (Request.Sample additions))
-        (W.outside world.old) (W.outside world.new) (D.told steps.old) (D.told steps.new) }
+    ensures ends { RequestEnds (Request.Sample additions)
+        (W.outside world.old) (W.outside world.new) (D.told steps.old) (D.told steps.new) result }
     ensures bounded { (W.outside world.new).given ≤ (W.outside world.old).given }
-    ensures outlasts { Outlasts (D.told steps.old) (D.told steps.new) }
 {
     let job = sample_job(additions);
     let texts = sample_texts(alloc, additions)?;
@@ -164,42 +147,43 @@ where
     requires rules { AreJobRules (steady_of (asked_by words.now))
         (L.pre rules.luby) (L.post rules.luby) (G.pre rules.steady) (G.post rules.steady)
         (K.pre rules.keep) (K.post rules.keep) }
-    ensures answer { IfOk result (λ answer. Comes (asked_by words.now)
-        (W.outside world.old) (W.outside world.new) (D.told steps.old) (D.told steps.new) answer) }
-    ensures stops { Stops (asked_by words.now)
-        (W.outside world.old) (W.outside world.new) (D.told steps.old) (D.told steps.new) }
-    ensures cause { result ≡ Err SearchError.SinkFailed → HasHandFault (cert_of (asked_by words.now))
-        (W.outside world.old) (W.outside world.new) (D.told steps.old) (D.told steps.new) }
+    ensures ends { RequestEnds (asked_by words.now)
+        (W.outside world.old) (W.outside world.new) (D.told steps.old) (D.told steps.new) result }
     ensures bounded { GivesAtMost (most_given (asked_by words.now))
         (W.outside world.old) (W.outside world.new) }
-    ensures outlasts { Outlasts (D.told steps.old) (D.told steps.new) }
 {
     match read_request(alloc, words)? {
         Request::Refused => Ok(Answer::BadWords),
         Request::Sample(additions) => {
-            let rules = JobRules {
-                rules,
-                steady: false,
+            let Rules { luby, keep, .. } = rules;
+            let rules = RulesBy {
+                restart: luby,
+                keep,
             };
             sample_answer(alloc, world, additions, steps, rules)
         }
         Request::Wanted(job) => {
-            let rules = JobRules {
-                rules,
-                steady: job.steady,
-            };
-            job_answer(alloc, world, &job, steps, rules)
+            let Rules { luby, steady, keep } = rules;
+            if job.steady {
+                let rules = RulesBy {
+                    restart: steady,
+                    keep,
+                };
+                job_answer(alloc, world, &job, steps, rules)
+            } else {
+                let rules = RulesBy {
+                    restart: luby,
+                    keep,
+                };
+                job_answer(alloc, world, &job, steps, rules)
+            }
         }
     }
 }
 
 /// Prints a text by one call, and answers how the program then ends.
 fn show<W: World>(world: &mut W, text: &[u8], status: Status) -> Status
-    ensures shown { ((result ≡ status)
-        × Prints (W.outside world.old) (W.outside world.new) text.now)
-        ⊎ ((result ≡ Status.WriteFault) × HasWriteFault (W.outside world.old) (W.outside world.new))
-        ⊎ ((result ≡ Status.Memory)
-        × HasPrintShortage (W.outside world.old) (W.outside world.new)) }
+    ensures shown { IsPrinted text.now status (W.outside world.old) (W.outside world.new) result }
     ensures prefix { PrintsPrefix (W.outside world.old) (W.outside world.new) text.now }
     ensures stays { OnlyPrints (W.outside world.old) (W.outside world.new) }
 {

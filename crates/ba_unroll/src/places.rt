@@ -28,7 +28,7 @@ fn step_in<'t>(turns: &'t [u32], step: Step) -> (Step, &'t [u32])
 fn steps_in(alloc: Global, turns: &[u32], path: &[Step]) -> Result<Vec<Step>, AllocError>
     ensures { IfOk result (λ steps. steps.items ≡ filled turns.now path.now) }
 {
-    let mut steps = Vec::new(alloc);
+    let mut steps = Vec::with_capacity(alloc, path.len())?;
     let mut left = turns;
     for step in path {
         let (step, outer) = step_in(left, *step);

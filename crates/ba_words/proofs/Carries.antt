@@ -68,22 +68,8 @@ pub number-zeros : (free : ℕ → Bool) (nodes : List Node) (n : ℕ) (bit : Bi
 number-zeros free nodes zero bit none = refl
 number-zeros free nodes (suc n) bit none = (λ i. digit (none i) + 2 * number-zeros free nodes n bit none i)
 
--- the values of sums by their numbers
+-- the value of a negation by its number
 module _ (old new : List Node) (a b word : List Bit) (carry : Bit) where
-  pub added : length a ≡ 32 → length b ≡ 32 → HasValue old carry (λ free. false)
-      → HasNumber new word (λ free. (number_of free old a + number_of free old b + digit (truth free old carry)) % 2 ^ 32) → (signed : Bool) → IsValueOf Add signed old a b new word
-  added a_long b_long none has signed free =
-      let start : number_of free old a + number_of free old b + 0 ≡ number_of free old a + number_of free old b = omega arith in
-      add_value signed (number_of free old a) (number_of free old b)
-      ∙ ap (λ n. Some (read signed n)) (sym (has.holds free ∙ ap (λ t. (number_of free old a + number_of free old b + digit t) % 2 ^ 32) (none.holds free) ∙ ap (λ n. n % 2 ^ 32) start))
-
-  pub subtracted : (complement : List Bit) → length a ≡ 32 → length b ≡ 32 → ((free : ℕ → Bool) → number_of free old complement + number_of free old b + 1 ≡ 2 ^ 32) → HasValue old carry (λ free. true)
-      → HasNumber new word (λ free. (number_of free old a + number_of free old complement + digit (truth free old carry)) % 2 ^ 32) → (signed : Bool) → IsValueOf Sub signed old a b new word
-  subtracted complement a_long b_long whole one has signed free =
-      let less : number_of free old a + number_of free old complement + 1 ≡ number_of free old a + (2 ^ 32 - number_of free old b) = omega (arith, whole free) in
-      sub_value signed (number_of free old a) (number_of free old b) (number_small free old b b_long)
-      ∙ ap (λ n. Some (read signed n)) (sym (has.holds free ∙ ap (λ t. (number_of free old a + number_of free old complement + digit t) % 2 ^ 32) (one.holds free) ∙ ap (λ n. n % 2 ^ 32) less))
-
   pub negated : (complement : List Bit) (bit : Bit) → length a ≡ 32 → ((free : ℕ → Bool) → number_of free old complement + number_of free old a + 1 ≡ 2 ^ 32) → HasValue old bit (λ free. false) → HasValue old carry (λ free. true)
       → HasNumber new word (λ free. (number_of free old (replicate 32 bit) + number_of free old complement + digit (truth free old carry)) % 2 ^ 32) → (signed : Bool) → IsValueOfOne Neg signed old a new word
   negated complement bit a_long whole none one has signed free =

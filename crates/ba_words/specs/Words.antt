@@ -1,9 +1,10 @@
 -- Words of bits as numbers, and as numbers of C.
 
-use Rattle.std.specs.Prelude.{◌≡◌, ℕ, ◌+◌, ◌-◌, ◌*◌, ◌/◌, ◌^◌, Bool, true, false, not, List, [], ◌∷◌, length, map, take, Some, slice_index_or, ℤ, pos}
+use Rattle.std.specs.Prelude.{◌≡◌, ℕ, ◌+◌, ◌-◌, ◌*◌, ◌/◌, ◌^◌, Bool, true, false, not, List, [], ◌∷◌, length, map, take, Some, slice_index_or, ℤ, pos, Result, IfOk}
+use Rattle.std.specs.declared.alloc.AllocError.{AllocError}
 use Rattle.ba_nodes.specs.declared.Bit.{Bit}
 use Rattle.ba_nodes.specs.declared.Node.{Node}
-use Rattle.ba_nodes.specs.Gates.{truth, constant_bit, IsBitOf}
+use Rattle.ba_nodes.specs.Gates.{truth, constant_bit, IsBitOf, Grows}
 use Rattle.ba_numbers.specs.declared.numbers.CType.{CType}
 use Rattle.ba_numbers.specs.declared.numbers.CType.TheVariants.{I32, U32}
 use Rattle.ba_numbers.specs.declared.numbers.BinOp.{BinOp}
@@ -33,11 +34,26 @@ bit_at word place = slice_index_or word place (constant_bit false)
 abbrev pub AreBitsOf : List Node → List Bit → Type 0
 AreBitsOf nodes word = (place : ℕ) → IsBitOf nodes (bit_at word place)
 
+-- the same of two words
+pub record AreWords (nodes : List Node) (a b : List Bit) : Type 0 where
+  pub first : AreBitsOf nodes a
+  pub second : AreBitsOf nodes b
+
 -- a word of these nodes has this number under each assignment
 pub record HasNumber (nodes : List Node) (word : List Bit) (number : (ℕ → Bool) → ℕ) : Type 0 where
   pub long : length word ≡ 32
   pub are_bits : AreBitsOf nodes word
   pub holds : (free : ℕ → Bool) → number_of free nodes word ≡ number free
+
+-- a call gives a word that has this number, by at most so many gates: where memory runs out the nodes grow no more
+pub record MakesWord (old new : List Node) (result : Result (List Bit) AllocError) (gates : ℕ) (meaning : (ℕ → Bool) → ℕ) : Type 0 where
+  pub number : IfOk result (λ word. HasNumber new word meaning)
+  pub grows : Grows old new gates
+
+-- the same for a number that is made of those of two words
+abbrev pub Computes : List Node → List Bit → List Bit → List Node → Result (List Bit) AllocError → (gates : ℕ) → (meaning : ℕ → ℕ → ℕ) → Type 0
+Computes old a b new result gates meaning =
+    MakesWord old new result gates (λ free. meaning (number_of free old a) (number_of free old b))
 
 -- the type of 32 bits in which a word is read
 abbrev pub word_type : Bool → CType
@@ -53,7 +69,12 @@ abbrev pub IsValueOf : BinOp → Bool → List Node → List Bit → List Bit �
 IsValueOf op signed old a b new word =
     (free : ℕ → Bool) → value_of op (word_type signed) (word_value signed free old a) (word_value signed free old b) ≡ Some (word_value signed free new word)
 
--- the same for a shift, whose count may be read otherwise than the word
+-- a call computes the operator of C at two words, however they are read, by this number
+pub record IsCircuit (op : BinOp) (old : List Node) (a b : List Bit) (new : List Node) (result : Result (List Bit) AllocError) (gates : ℕ) (meaning : ℕ → ℕ → ℕ) : Type 0 where
+  pub computes : Computes old a b new result gates meaning
+  pub value : IfOk result (λ word. (signed : Bool) → IsValueOf op signed old a b new word)
+
+-- the value of an operator for a shift, whose count may be read otherwise than the word
 abbrev pub IsShift : BinOp → Bool → Bool → List Node → List Bit → List Bit → List Node → List Bit → Type 0
 IsShift op signed counted old a count new word =
     (free : ℕ → Bool) → value_of op (word_type signed) (word_value signed free old a) (word_value counted free old count) ≡ Some (word_value signed free new word)

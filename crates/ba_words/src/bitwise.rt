@@ -7,8 +7,8 @@ ghost use Rattle.ba_numbers.specs.declared.numbers.UnOp.{UnOp};
 ghost use Rattle.ba_numbers.specs.declared.numbers.UnOp.TheVariants.{Flip};
 ghost use Rattle.ba_nodes.specs.declared.Bit.{Bit};
 ghost use Rattle.ba_nodes.specs.declared.Node.{Node};
-ghost use Rattle.ba_nodes.specs.Gates.{truth, IsBitOf, gates_in, Extends};
-ghost use Rattle.ba_words.specs.Words.{number_of, AreBitsOf, HasNumber, IsValueOf, IsValueOfOne};
+ghost use Rattle.ba_nodes.specs.Gates.{truth, IsBitOf};
+ghost use Rattle.ba_words.specs.Words.{number_of, AreBitsOf, AreWords, IsValueOfOne, MakesWord, IsCircuit};
 
 use crate::Word;
 use ba_nodes::{Bit, Nodes};
@@ -16,15 +16,8 @@ use std::alloc::AllocError;
 
 /// The `and` of the bits of two words (C90 6.3.10), by at most 32 gates.
 pub fn bit_and(nodes: &mut Nodes, a: &Word, b: &Word) -> Result<Word, AllocError>
-    requires first { AreBitsOf nodes.old a.now }
-    requires second { AreBitsOf nodes.old b.now }
-    ensures number { IfOk result (λ word.
-        HasNumber nodes.new word (λ free.
-        bit_and (number_of free nodes.old a.now) (number_of free nodes.old b.now))) }
-    ensures value { IfOk result (λ word. (signed : Bool)
-        → IsValueOf BinOp.And signed nodes.old a.now b.now nodes.new word) }
-    ensures extends { Extends nodes.old nodes.new }
-    ensures count { gates_in nodes.new ≤ gates_in nodes.old + 32 }
+    requires { AreWords nodes.old a.now b.now }
+    ensures { IsCircuit BinOp.And nodes.old a.now b.now nodes.new result 32 bit_and }
 {
     let mut word = *a;
     for i in 0..32 {
@@ -35,15 +28,8 @@ pub fn bit_and(nodes: &mut Nodes, a: &Word, b: &Word) -> Result<Word, AllocError
 
 /// The `or` of the bits of two words (C90 6.3.12), by at most 32 gates.
 pub fn bit_or(nodes: &mut Nodes, a: &Word, b: &Word) -> Result<Word, AllocError>
-    requires first { AreBitsOf nodes.old a.now }
-    requires second { AreBitsOf nodes.old b.now }
-    ensures number { IfOk result (λ word.
-        HasNumber nodes.new word (λ free.
-        bit_or (number_of free nodes.old a.now) (number_of free nodes.old b.now))) }
-    ensures value { IfOk result (λ word. (signed : Bool)
-        → IsValueOf BinOp.Or signed nodes.old a.now b.now nodes.new word) }
-    ensures extends { Extends nodes.old nodes.new }
-    ensures count { gates_in nodes.new ≤ gates_in nodes.old + 32 }
+    requires { AreWords nodes.old a.now b.now }
+    ensures { IsCircuit BinOp.Or nodes.old a.now b.now nodes.new result 32 bit_or }
 {
     let mut word = *a;
     for i in 0..32 {
@@ -54,15 +40,8 @@ pub fn bit_or(nodes: &mut Nodes, a: &Word, b: &Word) -> Result<Word, AllocError>
 
 /// The exclusive `or` of the bits of two words (C90 6.3.11), by at most 96 gates.
 pub fn bit_xor(nodes: &mut Nodes, a: &Word, b: &Word) -> Result<Word, AllocError>
-    requires first { AreBitsOf nodes.old a.now }
-    requires second { AreBitsOf nodes.old b.now }
-    ensures number { IfOk result (λ word.
-        HasNumber nodes.new word (λ free.
-        bit_xor (number_of free nodes.old a.now) (number_of free nodes.old b.now))) }
-    ensures value { IfOk result (λ word. (signed : Bool)
-        → IsValueOf BinOp.Xor signed nodes.old a.now b.now nodes.new word) }
-    ensures extends { Extends nodes.old nodes.new }
-    ensures count { gates_in nodes.new ≤ gates_in nodes.old + 96 }
+    requires { AreWords nodes.old a.now b.now }
+    ensures { IsCircuit BinOp.Xor nodes.old a.now b.now nodes.new result 96 bit_xor }
 {
     let mut word = *a;
     for i in 0..32 {
@@ -74,14 +53,10 @@ pub fn bit_xor(nodes: &mut Nodes, a: &Word, b: &Word) -> Result<Word, AllocError
 /// The word `yes` where `which` is true, and else `no`, by at most 96 gates.
 pub fn select(nodes: &mut Nodes, which: Bit, yes: &Word, no: &Word) -> Result<Word, AllocError>
     requires chooser { IsBitOf nodes.old which }
-    requires first { AreBitsOf nodes.old yes.now }
-    requires second { AreBitsOf nodes.old no.now }
-    ensures number { IfOk result (λ word.
-        HasNumber nodes.new word (λ free.
-        if truth free nodes.old which then number_of free nodes.old yes.now else number_of free
-        nodes.old no.now)) }
-    ensures extends { Extends nodes.old nodes.new }
-    ensures count { gates_in nodes.new ≤ gates_in nodes.old + 96 }
+    requires words { AreWords nodes.old yes.now no.now }
+    ensures { MakesWord nodes.old nodes.new result 96
+        (λ free. if truth free nodes.old which then number_of free nodes.old yes.now
+        else number_of free nodes.old no.now) }
 {
     let mut word = *yes;
     for i in 0..32 {

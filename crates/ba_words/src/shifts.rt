@@ -5,8 +5,8 @@ ghost use Rattle.ba_numbers.specs.declared.numbers.BinOp.{BinOp};
 ghost use Rattle.ba_numbers.specs.declared.numbers.BinOp.TheVariants.{Shl, Shr};
 ghost use Rattle.ba_nodes.specs.declared.Bit.{Bit};
 ghost use Rattle.ba_nodes.specs.declared.Node.{Node};
-ghost use Rattle.ba_nodes.specs.Gates.{constant_bit, truth, IsBitOf, gates_in, Extends};
-ghost use Rattle.ba_words.specs.Words.{number_of, bit_at, AreBitsOf, HasNumber, IsShift, shifted_down};
+ghost use Rattle.ba_nodes.specs.Gates.{constant_bit, truth, IsBitOf};
+ghost use Rattle.ba_words.specs.Words.{number_of, bit_at, AreBitsOf, AreWords, IsShift, shifted_down, MakesWord};
 
 use crate::{Word, select};
 use ba_nodes::{Bit, Nodes};
@@ -15,16 +15,12 @@ use std::alloc::AllocError;
 /// The word times two to the power of the low five bits of `count`, modulo 2^32 (C90 6.3.7), by at most 480
 /// gates.
 pub fn shl(nodes: &mut Nodes, a: &Word, count: &Word) -> Result<Word, AllocError>
-    requires first { AreBitsOf nodes.old a.now }
-    requires second { AreBitsOf nodes.old count.now }
-    ensures number { IfOk result (λ word.
-        HasNumber nodes.new word (λ free.
-        (number_of free nodes.old a.now * 2 ^ (number_of free nodes.old count.now % 32)) % 2 ^
-        32)) }
+    requires { AreWords nodes.old a.now count.now }
+    ensures makes { MakesWord nodes.old nodes.new result 480
+        (λ free. (number_of free nodes.old a.now * 2 ^ (number_of free nodes.old count.now % 32))
+        % 2 ^ 32) }
     ensures value { IfOk result (λ word. (signed counted : Bool)
         → IsShift BinOp.Shl signed counted nodes.old a.now count.now nodes.new word) }
-    ensures extends { Extends nodes.old nodes.new }
-    ensures count { gates_in nodes.new ≤ gates_in nodes.old + 480 }
 {
     let mut word = *a;
     for level in 0..5 {
@@ -37,15 +33,12 @@ pub fn shl(nodes: &mut Nodes, a: &Word, count: &Word) -> Result<Word, AllocError
 /// The word divided by two to the power of the low five bits of `count`, rounded down (C90 6.3.7), by at most
 /// 480 gates. A signed word keeps its sign.
 pub fn shr(nodes: &mut Nodes, a: &Word, count: &Word, signed: bool) -> Result<Word, AllocError>
-    requires first { AreBitsOf nodes.old a.now }
-    requires second { AreBitsOf nodes.old count.now }
-    ensures number { IfOk result (λ word.
-        HasNumber nodes.new word (λ free. shifted_down (number_of free nodes.old a.now) (signed
-        && truth free nodes.old (bit_at a.now 31)) (number_of free nodes.old count.now % 32))) }
+    requires { AreWords nodes.old a.now count.now }
+    ensures makes { MakesWord nodes.old nodes.new result 480
+        (λ free. shifted_down (number_of free nodes.old a.now) (signed
+        && truth free nodes.old (bit_at a.now 31)) (number_of free nodes.old count.now % 32)) }
     ensures value { IfOk result (λ word. (counted : Bool)
         → IsShift BinOp.Shr signed counted nodes.old a.now count.now nodes.new word) }
-    ensures extends { Extends nodes.old nodes.new }
-    ensures count { gates_in nodes.new ≤ gates_in nodes.old + 480 }
 {
     let sign = sign_of(a, signed);
     let mut word = *a;

@@ -6,8 +6,8 @@ ghost use Rattle.ba_numbers.specs.declared.numbers.BinOp.TheVariants.{Add, Sub};
 ghost use Rattle.ba_numbers.specs.declared.numbers.UnOp.{UnOp};
 ghost use Rattle.ba_numbers.specs.declared.numbers.UnOp.TheVariants.{Neg};
 ghost use Rattle.ba_nodes.specs.declared.Bit.{Bit};
-ghost use Rattle.ba_nodes.specs.Gates.{bool_xor, truth, IsBitOf, gates_in, Extends, HasValue};
-ghost use Rattle.ba_words.specs.Words.{digit, number_of, low_number, AreBitsOf, HasNumber, AddUp, IsValueOf, IsValueOfOne};
+ghost use Rattle.ba_nodes.specs.Gates.{bool_xor, truth, IsBitOf, HasValue, Grows, MakesBit};
+ghost use Rattle.ba_words.specs.Words.{digit, number_of, low_number, AreBitsOf, AreWords, AddUp, IsValueOfOne, MakesWord, IsCircuit};
 
 use crate::{Word, flip, moved_up};
 use ba_nodes::{Bit, Nodes};
@@ -15,30 +15,18 @@ use std::alloc::AllocError;
 
 /// The sum of two words modulo 2^32 (C90 6.3.6), by at most 288 gates.
 pub fn add(nodes: &mut Nodes, a: &Word, b: &Word) -> Result<Word, AllocError>
-    requires first { AreBitsOf nodes.old a.now }
-    requires second { AreBitsOf nodes.old b.now }
-    ensures number { IfOk result (λ word.
-        HasNumber nodes.new word (λ free.
-        (number_of free nodes.old a.now + number_of free nodes.old b.now) % 2 ^ 32)) }
-    ensures value { IfOk result (λ word. (signed : Bool)
-        → IsValueOf BinOp.Add signed nodes.old a.now b.now nodes.new word) }
-    ensures extends { Extends nodes.old nodes.new }
-    ensures count { gates_in nodes.new ≤ gates_in nodes.old + 288 }
+    requires { AreWords nodes.old a.now b.now }
+    ensures { IsCircuit BinOp.Add nodes.old a.now b.now nodes.new result 288
+        (λ m n. (m + n) % 2 ^ 32) }
 {
     sum(nodes, a, b, Nodes::constant(false))
 }
 
 /// The difference of two words modulo 2^32 (C90 6.3.6), by at most 288 gates.
 pub fn sub(nodes: &mut Nodes, a: &Word, b: &Word) -> Result<Word, AllocError>
-    requires first { AreBitsOf nodes.old a.now }
-    requires second { AreBitsOf nodes.old b.now }
-    ensures number { IfOk result (λ word.
-        HasNumber nodes.new word (λ free.
-        (number_of free nodes.old a.now + (2 ^ 32 - number_of free nodes.old b.now)) % 2 ^ 32)) }
-    ensures value { IfOk result (λ word. (signed : Bool)
-        → IsValueOf BinOp.Sub signed nodes.old a.now b.now nodes.new word) }
-    ensures extends { Extends nodes.old nodes.new }
-    ensures count { gates_in nodes.new ≤ gates_in nodes.old + 288 }
+    requires { AreWords nodes.old a.now b.now }
+    ensures { IsCircuit BinOp.Sub nodes.old a.now b.now nodes.new result 288
+        (λ m n. (m + (2 ^ 32 - n)) % 2 ^ 32) }
 {
     let complement = flip(b);
     sum(nodes, a, &complement, Nodes::constant(true))
@@ -47,12 +35,10 @@ pub fn sub(nodes: &mut Nodes, a: &Word, b: &Word) -> Result<Word, AllocError>
 /// The word with the opposite sign, modulo 2^32 (C90 6.3.3.3), by at most 288 gates.
 pub fn neg(nodes: &mut Nodes, a: &Word) -> Result<Word, AllocError>
     requires { AreBitsOf nodes.old a.now }
-    ensures number { IfOk result (λ word.
-        HasNumber nodes.new word (λ free. (2 ^ 32 - number_of free nodes.old a.now) % 2 ^ 32)) }
+    ensures makes { MakesWord nodes.old nodes.new result 288
+        (λ free. (2 ^ 32 - number_of free nodes.old a.now) % 2 ^ 32) }
     ensures value { IfOk result (λ word. (signed : Bool)
         → IsValueOfOne UnOp.Neg signed nodes.old a.now nodes.new word) }
-    ensures extends { Extends nodes.old nodes.new }
-    ensures count { gates_in nodes.new ≤ gates_in nodes.old + 288 }
 {
     let complement = flip(a);
     let zero = [Nodes::constant(false); 32];
@@ -66,17 +52,15 @@ pub fn add_with_carry(
     b: &Word,
     carry: Bit,
 ) -> Result<(Word, Bit), AllocError>
-    requires first { AreBitsOf nodes.old a.now }
-    requires second { AreBitsOf nodes.old b.now }
-    requires third { IsBitOf nodes.old carry }
+    requires words { AreWords nodes.old a.now b.now }
+    requires carry { IsBitOf nodes.old carry }
     ensures bits { IfOk result (λ r. (length r.0 ≡ 32) × AreBitsOf nodes.new r.0
         × IsBitOf nodes.new r.1) }
     ensures sum { IfOk result (λ r. (free : ℕ → Bool) →
         number_of free nodes.new r.0 + 2 ^ 32 * digit (truth free nodes.new r.1)
         ≡ number_of free nodes.old a.now + number_of free nodes.old b.now
         + digit (truth free nodes.old carry)) }
-    ensures extends { Extends nodes.old nodes.new }
-    ensures count { gates_in nodes.new ≤ gates_in nodes.old + 288 }
+    ensures grows { Grows nodes.old nodes.new 288 }
 {
     let (mut sums, carried) = low_sums(nodes, a, b, carry, 0)?;
     let (highest, carry_out) = full_adder(nodes, a[31], b[31], carried)?;
@@ -94,30 +78,23 @@ pub fn add_moved_up(
     place: usize,
 ) -> Result<Word, AllocError>
     requires small { place < 32 }
-    requires first { AreBitsOf nodes.old a.now }
-    requires second { AreBitsOf nodes.old b.now }
-    requires third { IsBitOf nodes.old carry }
-    ensures number { IfOk result (λ word.
-        HasNumber nodes.new word (λ free.
-        (number_of free nodes.old a.now + (number_of free nodes.old b.now + digit
-        (truth free nodes.old carry)) * 2 ^ place) % 2 ^ 32)) }
-    ensures extends { Extends nodes.old nodes.new }
-    ensures count { gates_in nodes.new ≤ gates_in nodes.old + 9 * (32 - place) }
+    requires words { AreWords nodes.old a.now b.now }
+    requires carry { IsBitOf nodes.old carry }
+    ensures { MakesWord nodes.old nodes.new result (9 * (32 - place))
+        (λ free. (number_of free nodes.old a.now
+        + (number_of free nodes.old b.now + digit (truth free nodes.old carry)) * 2 ^ place)
+        % 2 ^ 32) }
 {
     sum_from(nodes, a, &moved_up(b, place), carry, place)
 }
 
 /// The sum of two words and a carry modulo 2^32.
 fn sum(nodes: &mut Nodes, a: &Word, b: &Word, carry: Bit) -> Result<Word, AllocError>
-    requires first { AreBitsOf nodes.old a.now }
-    requires second { AreBitsOf nodes.old b.now }
-    requires third { IsBitOf nodes.old carry }
-    ensures number { IfOk result (λ word.
-        HasNumber nodes.new word (λ free.
-        (number_of free nodes.old a.now + number_of free nodes.old b.now + digit
-        (truth free nodes.old carry)) % 2 ^ 32)) }
-    ensures extends { Extends nodes.old nodes.new }
-    ensures count { gates_in nodes.new ≤ gates_in nodes.old + 288 }
+    requires words { AreWords nodes.old a.now b.now }
+    requires carry { IsBitOf nodes.old carry }
+    ensures { MakesWord nodes.old nodes.new result 288
+        (λ free. (number_of free nodes.old a.now + number_of free nodes.old b.now
+        + digit (truth free nodes.old carry)) % 2 ^ 32) }
 {
     sum_from(nodes, a, b, carry, 0)
 }
@@ -131,16 +108,12 @@ fn sum_from(
     from: usize,
 ) -> Result<Word, AllocError>
     requires small { from < 32 }
-    requires first { AreBitsOf nodes.old a.now }
-    requires second { AreBitsOf nodes.old b.now }
-    requires third { IsBitOf nodes.old carry }
-    ensures number { IfOk result (λ word.
-        HasNumber nodes.new word (λ free.
-        (number_of free nodes.old a.now
-        + (number_of free nodes.old b.now - low_number free nodes.old b.now from)
-        + 2 ^ from * digit (truth free nodes.old carry)) % 2 ^ 32)) }
-    ensures extends { Extends nodes.old nodes.new }
-    ensures count { gates_in nodes.new ≤ gates_in nodes.old + 9 * (32 - from) }
+    requires words { AreWords nodes.old a.now b.now }
+    requires carry { IsBitOf nodes.old carry }
+    ensures { MakesWord nodes.old nodes.new result (9 * (32 - from))
+        (λ free. (number_of free nodes.old a.now
+        + (number_of free nodes.old b.now - low_number free nodes.old b.now from) + 2 ^ from
+        * digit (truth free nodes.old carry)) % 2 ^ 32) }
 {
     let (mut sums, carried) = low_sums(nodes, a, b, carry, from)?;
     sums[31] = sum_bit(nodes, a[31], b[31], carried)?;
@@ -152,12 +125,9 @@ fn sum_bit(nodes: &mut Nodes, a: Bit, b: Bit, carry: Bit) -> Result<Bit, AllocEr
     requires first { IsBitOf nodes.old a }
     requires second { IsBitOf nodes.old b }
     requires third { IsBitOf nodes.old carry }
-    ensures sum { IfOk result (λ bit.
-        HasValue nodes.new bit (λ free.
-        bool_xor (bool_xor (truth free nodes.old a) (truth free nodes.old b))
-        (truth free nodes.old carry))) }
-    ensures extends { Extends nodes.old nodes.new }
-    ensures count { gates_in nodes.new ≤ gates_in nodes.old + 6 }
+    ensures { MakesBit nodes.old nodes.new result 6
+        (λ free. bool_xor (bool_xor (truth free nodes.old a) (truth free nodes.old b))
+        (truth free nodes.old carry)) }
 {
     let half = nodes.xor(a, b)?;
     nodes.xor(half, carry)
@@ -173,13 +143,11 @@ fn low_sums(
     from: usize,
 ) -> Result<(Word, Bit), AllocError>
     requires small { from < 32 }
-    requires first { AreBitsOf nodes.old a.now }
-    requires second { AreBitsOf nodes.old b.now }
-    requires third { IsBitOf nodes.old carry }
+    requires words { AreWords nodes.old a.now b.now }
+    requires carry { IsBitOf nodes.old carry }
     ensures sums { IfOk result (λ r.
         AddUp nodes.old a.now b.now carry from nodes.new r.0 r.1 31) }
-    ensures extends { Extends nodes.old nodes.new }
-    ensures count { gates_in nodes.new ≤ gates_in nodes.old + 9 * (31 - from) }
+    ensures grows { Grows nodes.old nodes.new (9 * (31 - from)) }
 {
     let mut sums = *a;
     let mut carried = carry;
@@ -205,8 +173,7 @@ fn full_adder(nodes: &mut Nodes, a: Bit, b: Bit, carry: Bit) -> Result<(Bit, Bit
         HasValue nodes.new r.1 (λ free. (truth free nodes.old a && truth free nodes.old b)
         || (bool_xor (truth free nodes.old a) (truth free nodes.old b)
         && truth free nodes.old carry))) }
-    ensures extends { Extends nodes.old nodes.new }
-    ensures count { gates_in nodes.new ≤ gates_in nodes.old + 9 }
+    ensures grows { Grows nodes.old nodes.new 9 }
 {
     let half = nodes.xor(a, b)?;
     let sum = nodes.xor(half, carry)?;

@@ -1,13 +1,11 @@
 //! Certificates in a world of files, with and without faults.
 
-ghost use Rattle.std.specs.Prelude.{◌≡◌, All, codes};
-ghost use Rattle.ba_steps.specs.Steps.{IsFormed};
+ghost use Rattle.std.specs.Prelude.{◌≡◌, codes};
 ghost use Rattle.outside_tests.specs.Settings.{settings};
 
-use ba_cert::{CertHead, CertSink, Start, TextSink, begin_text, read_line, write_text};
-use ba_items::Items;
+use ba_cert::{CertHead, CertSink, Start, TextSink, begin_text, read_line};
 use ba_lits::Formula;
-use ba_steps::{CertStep, ListSink, SinkError, StepSink};
+use ba_steps::{ListSink, NoSink, SinkError, StepSink};
 use ba_tree::run::Bounds;
 use ba_world::{MemoryWorld, World};
 use std::alloc::Global;
@@ -144,33 +142,22 @@ fn a_fault_in_the_first_lines_is_answered(rt: HostRuntime) {
     holds(&rt, &world, "c", "bugassist 2\nb 5");
 }
 
-/// The steps of two lines.
-fn steps_of(rt: &impl Abort, alloc: Global, first: &str, second: &str) -> Items<CertStep>
-    ensures { All IsFormed result }
-{
-    let first = read_line(alloc, first.as_bytes()).expect(rt, "a step");
-    let second = read_line(alloc, second.as_bytes()).expect(rt, "a step");
-    let mut steps = Items::new(alloc);
-    steps.push(first).expect(rt, "memory");
-    steps.push(second).expect(rt, "memory");
-    steps
-}
-
 #[test]
-fn a_list_of_steps_is_written_in_place_of_another(rt: HostRuntime) {
+fn a_certificate_is_written_in_place_of_another(rt: HostRuntime) {
     let alloc = rt.alloc();
     let mut world = world_of(&rt, alloc, &[7]);
-    let long = steps_of(&rt, alloc, "c -1 -2 0 1 0", "e n 2 0");
-    write_text(alloc, &mut world, "c", &settings(), long.as_slice()).expect(&rt, "a text");
+    let long = [b"c -1 -2 0 1 0".as_slice(), b"e n 2 0".as_slice()];
+    let written = write(&rt, alloc, &mut world, &long, &mut NoSink);
+    assert!(rt; written.whole);
     holds(
         &rt,
         &world,
         "c",
         "bugassist 2\nb 5 16 200000 1000\nc -1 -2 0 1 0\ne n 2 0\n",
     );
-    let short = steps_of(&rt, alloc, "l 1 0 0", "e b");
-    let answer = write_text(alloc, &mut world, "c", &settings(), short.as_slice());
-    assert_eq!(rt; answer, Err(SinkError::Failed));
+    let short = [b"l 1 0 0".as_slice(), b"e b".as_slice()];
+    let written = write(&rt, alloc, &mut world, &short, &mut NoSink);
+    assert_eq!(rt; written.last, Err(SinkError::Failed));
     holds(
         &rt,
         &world,

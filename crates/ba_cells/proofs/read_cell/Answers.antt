@@ -1,5 +1,5 @@
 use Rattle.std.proofs.Common.{◌≡◌, ◌<◌, ◌==◌, length, sym, ap, ◌∙◌, arith, if◌then◌else◌}
-use Rattle.ba_nodes.proofs.Truths.{Extends-through}
+use Rattle.ba_nodes.proofs.Truths.{Grows-more, Extends-through}
 use Rattle.ba_words.specs.Words.{low_number, number_of}
 use Rattle.ba_words.proofs.Places.{are_bits-extends, low_number-extends, number_of-extends}
 use Rattle.ba_cells.specs.Cells.{cell_at, place_read}
@@ -8,16 +8,15 @@ use Rattle.ba_cells.proofs.read_cell.Goals as goal
 
 pub loop-place-init : goal.loop-place-init
 loop-place-init c = record {
-  extends = c.grid_of.ensures.extends;
+  grows = Grows-more c.args.nodes.now c.grid_of.new.nodes c.grid_of.ensures.grows (omega arith);
   are_bits = are_bits-extends c.args.nodes.now c.grid_of.new.nodes (cell_at c.args.cells.now 0)
-      c.grid_of.ensures.extends (c.requires.cells 0);
+      c.grid_of.ensures.grows.extends (c.requires.cells 0);
   holds = λ free.
       number_of-extends free c.args.nodes.now c.grid_of.new.nodes (cell_at c.args.cells.now 0)
-      c.grid_of.ensures.extends (c.requires.cells 0)
+      c.grid_of.ensures.grows.extends (c.requires.cells 0)
       ∙ ap (λ k. number_of free c.args.nodes.now (cell_at c.args.cells.now k))
       (sym (read-one (low_number free c.args.nodes.now c.args.index.now 8)));
   grid = c.in_ok-rows.ensures.grid;
-  count = omega arith;
 }
 
 pub is_at-requires-clause-some : goal.is_at-requires-clause-some
@@ -46,19 +45,27 @@ is_at-requires-clause-column c =
 pub loop-place-preserved : goal.loop-place-preserved
 loop-place-preserved c =
     let first = Extends-through c.args.nodes.now c.loop-place.nodes c.is_at.new.nodes
-    c.loop-place.invariant.extends c.is_at.ensures.extends in
+    c.loop-place.invariant.grows.extends c.is_at.ensures.grows.extends in
     record {
-      extends = Extends-through c.args.nodes.now c.is_at.new.nodes c.select.new.nodes first
-          c.select.ensures.extends;
+      grows = record {
+        extends = Extends-through c.args.nodes.now c.is_at.new.nodes c.select.new.nodes first
+            c.select.ensures.grows.extends;
+        count = omega (
+          arith,
+          c.select.ensures.grows.count,
+          c.is_at.ensures.grows.count,
+          c.loop-place.invariant.grows.count,
+        );
+      };
       are_bits = c.in_ok-word.ensures.number.are_bits;
       holds = λ free.
           let n = low_number free c.args.nodes.now c.args.index.now 8 in
           let index = low_number-extends free c.args.nodes.now c.loop-place.nodes c.args.index.now 8
-          c.loop-place.invariant.extends c.requires.index in
+          c.loop-place.invariant.grows.extends c.requires.index in
           let cell = number_of-extends free c.args.nodes.now c.is_at.new.nodes
           (cell_at c.args.cells.now c.loop-place.place) first (c.requires.cells c.loop-place.place) in
           let before = number_of-extends free c.loop-place.nodes c.is_at.new.nodes c.loop-place.word
-          c.is_at.ensures.extends c.loop-place.invariant.are_bits ∙ c.loop-place.invariant.holds free in
+          c.is_at.ensures.grows.extends c.loop-place.invariant.are_bits ∙ c.loop-place.invariant.holds free in
           c.in_ok-word.ensures.number.holds free
           ∙ (λ i. if c.in_ok-here.ensures.value.holds free i then cell i else before i)
           ∙ ap (λ k. if k == c.loop-place.place
@@ -70,11 +77,9 @@ loop-place-preserved c =
       grid = grid-extends c.loop-place.nodes c.select.new.nodes c.args.index.now c.in_ok-rows.rows
           c.in_ok-rows.columns (length c.args.cells.now) c.in_ok-rows.width (Extends-through
           c.loop-place.nodes
-          c.is_at.new.nodes c.select.new.nodes c.is_at.ensures.extends c.select.ensures.extends)
+          c.is_at.new.nodes c.select.new.nodes c.is_at.ensures.grows.extends c.select.ensures.grows.extends)
           (are_bits-extends c.args.nodes.now c.loop-place.nodes c.args.index.now
-          c.loop-place.invariant.extends
-          c.requires.index) c.loop-place.invariant.grid;
-      count = omega (arith, c.select.ensures.count, c.is_at.ensures.count, c.loop-place.invariant.count);
+          c.loop-place.invariant.grows.extends c.requires.index) c.loop-place.invariant.grid;
     }
 
 pub returns-clause-value : goal.returns-clause-value

@@ -37,16 +37,25 @@ is_at-requires-clause-column c =
 pub loop-place-preserved : goal.loop-place-preserved
 loop-place-preserved c =
     let to_gate = Extends-through c.loop-place.nodes c.is_at.new.nodes c.and-in-loop-place.new.self
-    c.is_at.ensures.extends c.and-in-loop-place.ensures.extends in
+    c.is_at.ensures.grows.extends c.and-in-loop-place.ensures.makes.grows.extends in
     let one = Extends-through c.loop-place.nodes c.and-in-loop-place.new.self c.select.new.nodes to_gate
-    c.select.ensures.extends in
+    c.select.ensures.grows.extends in
     let to_select = Extends-through c.args.nodes.now c.loop-place.nodes c.and-in-loop-place.new.self
     c.loop-place.invariant.extends to_gate in
     record {
       extends = Extends-through c.args.nodes.now c.loop-place.nodes c.select.new.nodes
           c.loop-place.invariant.extends one;
-      bits = Extends-through c.grid_of.new.nodes c.loop-place.nodes c.select.new.nodes
-          c.loop-place.invariant.bits one;
+      grows = record {
+        extends = Extends-through c.grid_of.new.nodes c.loop-place.nodes c.select.new.nodes
+            c.loop-place.invariant.grows.extends one;
+        count = omega (
+          arith,
+          c.select.ensures.grows.count,
+          c.and-in-loop-place.ensures.makes.grows.count,
+          c.is_at.ensures.grows.count,
+          c.loop-place.invariant.grows.count,
+        );
+      };
       long = ap length c.in_ok-push.ensures.items ∙ length-append c.loop-place.written.items _
           ∙ ap (λ n. n + 1) c.loop-place.invariant.long;
       are_cells = pushed_cells c.loop-place.nodes c.select.new.nodes c.loop-place.written.items
@@ -63,10 +72,14 @@ loop-place-preserved c =
             | inr past ↦
                 let here : c.loop-place.place ≡ k = omega arith in
                 let named : IsBitOf c.grid_of.new.nodes c.in_ok-hit.hit =
-                omega (arith, c.in_ok-hit.ensures.value.is_bit, c.grid_of.ensures.extends.grows) in
-                let hit = c.is_at.ensures.extends.keeps free c.in_ok-hit.hit
-                (omega (arith, named, c.loop-place.invariant.bits.grows))
-                ∙ c.loop-place.invariant.bits.keeps free c.in_ok-hit.hit named in
+                omega (
+                  arith,
+                  c.in_ok-hit.ensures.makes.value.is_bit,
+                  c.grid_of.ensures.grows.extends.grows,
+                ) in
+                let hit = c.is_at.ensures.grows.extends.keeps free c.in_ok-hit.hit
+                (omega (arith, named, c.loop-place.invariant.grows.extends.grows))
+                ∙ c.loop-place.invariant.grows.extends.keeps free c.in_ok-hit.hit named in
                 let at = c.in_ok-here.ensures.value.holds free
                 ∙ ap (λ n. n == c.loop-place.place) (low_number-extends free c.args.nodes.now
                 c.loop-place.nodes c.args.index.now 8 c.loop-place.invariant.extends c.requires.index) in
@@ -82,7 +95,7 @@ loop-place-preserved c =
                 ∙ ap (λ b. if b then number_of free c.and-in-loop-place.new.self c.args.value.now
                 else number_of free c.and-in-loop-place.new.self
                 (cell_at c.args.cells.now c.loop-place.place))
-                (c.in_ok-replaced.ensures.value.holds free ∙ (λ i. hit i && at i))
+                (c.in_ok-replaced.ensures.makes.value.holds free ∙ (λ i. hit i && at i))
                 ∙ (λ i. if truth free c.grid_of.new.nodes c.in_ok-hit.hit
                 && (low_number free c.args.nodes.now c.args.index.now 8 == c.loop-place.place)
                 then number_of-extends free c.args.nodes.now c.and-in-loop-place.new.self c.args.value.now
@@ -96,13 +109,6 @@ loop-place-preserved c =
           (are_bits-extends c.args.nodes.now c.loop-place.nodes c.args.index.now
           c.loop-place.invariant.extends
           c.requires.index) c.loop-place.invariant.grid;
-      count = omega (
-        arith,
-        c.select.ensures.count,
-        c.and-in-loop-place.ensures.count,
-        c.is_at.ensures.count,
-        c.loop-place.invariant.count,
-      );
     }
 
 pub returns-clause-value : goal.returns-clause-value
@@ -110,9 +116,9 @@ returns-clause-value c free place within =
     let index = c.args.index.now in
     let n = number_of free c.args.nodes.now index in
     let l = low_number free c.args.nodes.now index 8 in
-    let hit = c.grid_of.ensures.extends.keeps free c.in_ok-hit.hit c.in_ok-hit.ensures.value.is_bit
-    ∙ c.in_ok-hit.ensures.value.holds free
-    ∙ (λ i. c.is_beyond.ensures.extends.keeps free c.args.when c.requires.when i
+    let hit = c.grid_of.ensures.grows.extends.keeps free c.in_ok-hit.hit
+    c.in_ok-hit.ensures.makes.value.is_bit ∙ c.in_ok-hit.ensures.makes.value.holds free
+    ∙ (λ i. c.is_beyond.ensures.grows.extends.keeps free c.args.when c.requires.when i
     && (c.not.ensures.value c.is_beyond.new.nodes free ∙ ap not (c.in_ok-beyond.ensures.value.holds free))
     i) in
     c.loop-place.invariant.writes free place (omega (arith, within))

@@ -1,4 +1,4 @@
-use Rattle.std.proofs.Common.{◌≡◌, length, replicate, subst, sym, ap, ◌∙◌}
+use Rattle.std.proofs.Common.{◌≡◌, rules, length, replicate, subst, sym, ap, ◌∙◌}
 use Rattle.std.proofs.lemmas.List.{length-replicate}
 use Rattle.ba_bits.proofs.Elements.{all-equal, cells-replicate, numbers-replicate}
 use Rattle.ba_bits.specs.Bits.{numbers_in}
@@ -7,8 +7,8 @@ use Rattle.ba_bits.proofs.arrays.zeros.Goals as goal
 
 equal-words : (c : goal.After-from_vec) → c.from_vec.result ≡ replicate c.args.count c.constant_word.result
 equal-words c = c.from_vec.ensures ∙ c.in_ok-resize.ensures.items
-    ∙ all-equal c.args.count c.new-words.result.len c.new-words.result.items c.constant_word.result
-    c.new-words.ensures.items c.new-words.ensures.len
+    ∙ all-equal c.args.count c.in_ok-words.words.len c.in_ok-words.words.items c.constant_word.result
+    c.in_ok-words.ensures.items (search rules)
 
 pub returns-clause-cells : goal.returns-clause-cells
 returns-clause-cells c nodes = subst (λ words. AreCellsOf nodes words) (sym (equal-words c))

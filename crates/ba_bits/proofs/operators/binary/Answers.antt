@@ -15,7 +15,7 @@ returns-in-Mul-clause-value c =
     (λ word has found. given-value c.args.nodes.now c.args.a.now c.args.b.now c.args.op Mul c.args.t
     c.is_signed-signed.result c.in-Mul.is c.is_signed-signed.ensures
     c.mul.new.nodes word _ refl has (found c.is_signed-signed.result))
-    c.mul.ensures.number c.mul.ensures.value
+    c.mul.ensures.computes.number c.mul.ensures.value
 
 pub returns-in-Add-clause-value : goal.returns-in-Add-clause-value
 returns-in-Add-clause-value c =
@@ -23,7 +23,7 @@ returns-in-Add-clause-value c =
     (λ word has found. given-value c.args.nodes.now c.args.a.now c.args.b.now c.args.op Add c.args.t
     c.is_signed-signed.result c.in-Add.is c.is_signed-signed.ensures
     c.add.new.nodes word _ refl has (found c.is_signed-signed.result))
-    c.add.ensures.number c.add.ensures.value
+    c.add.ensures.computes.number c.add.ensures.value
 
 pub returns-in-Sub-clause-value : goal.returns-in-Sub-clause-value
 returns-in-Sub-clause-value c =
@@ -31,7 +31,7 @@ returns-in-Sub-clause-value c =
     (λ word has found. given-value c.args.nodes.now c.args.a.now c.args.b.now c.args.op Sub c.args.t
     c.is_signed-signed.result c.in-Sub.is c.is_signed-signed.ensures
     c.sub.new.nodes word _ refl has (found c.is_signed-signed.result))
-    c.sub.ensures.number c.sub.ensures.value
+    c.sub.ensures.computes.number c.sub.ensures.value
 
 pub returns-in-And-clause-value : goal.returns-in-And-clause-value
 returns-in-And-clause-value c =
@@ -39,7 +39,7 @@ returns-in-And-clause-value c =
     (λ word has found. given-value c.args.nodes.now c.args.a.now c.args.b.now c.args.op And c.args.t
     c.is_signed-signed.result c.in-And.is c.is_signed-signed.ensures
     c.bit_and.new.nodes word _ refl has (found c.is_signed-signed.result))
-    c.bit_and.ensures.number c.bit_and.ensures.value
+    c.bit_and.ensures.computes.number c.bit_and.ensures.value
 
 pub returns-in-Xor-clause-value : goal.returns-in-Xor-clause-value
 returns-in-Xor-clause-value c =
@@ -47,7 +47,7 @@ returns-in-Xor-clause-value c =
     (λ word has found. given-value c.args.nodes.now c.args.a.now c.args.b.now c.args.op Xor c.args.t
     c.is_signed-signed.result c.in-Xor.is c.is_signed-signed.ensures
     c.bit_xor.new.nodes word _ refl has (found c.is_signed-signed.result))
-    c.bit_xor.ensures.number c.bit_xor.ensures.value
+    c.bit_xor.ensures.computes.number c.bit_xor.ensures.value
 
 pub returns-in-Or-clause-value : goal.returns-in-Or-clause-value
 returns-in-Or-clause-value c =
@@ -55,7 +55,7 @@ returns-in-Or-clause-value c =
     (λ word has found. given-value c.args.nodes.now c.args.a.now c.args.b.now c.args.op Or c.args.t
     c.is_signed-signed.result c.in-Or.is c.is_signed-signed.ensures
     c.bit_or.new.nodes word _ refl has (found c.is_signed-signed.result))
-    c.bit_or.ensures.number c.bit_or.ensures.value
+    c.bit_or.ensures.computes.number c.bit_or.ensures.value
 
 pub returns-in-Div-clause-value : goal.returns-in-Div-clause-value
 returns-in-Div-clause-value c =
@@ -68,7 +68,7 @@ returns-in-Div-clause-value c =
     (number_small free c.args.nodes.now c.args.a.now c.told-a)
     (number_small free c.args.nodes.now c.args.b.now c.told-b))
     has)
-    c.div.ensures.number
+    c.div.ensures.makes.number
 
 pub returns-in-Rem-clause-value : goal.returns-in-Rem-clause-value
 returns-in-Rem-clause-value c =
@@ -81,7 +81,7 @@ returns-in-Rem-clause-value c =
     (number_small free c.args.nodes.now c.args.a.now c.told-a)
     (number_small free c.args.nodes.now c.args.b.now c.told-b))
     has)
-    c.rem.ensures.number
+    c.rem.ensures.makes.number
 
 pub returns-in-Shl-clause-value : goal.returns-in-Shl-clause-value
 returns-in-Shl-clause-value c =
@@ -89,7 +89,7 @@ returns-in-Shl-clause-value c =
     (λ word has found. given-shift c.args.nodes.now c.args.a.now c.args.b.now c.args.op Shl c.args.t
     c.is_signed-signed.result c.in-Shl.is c.is_signed-signed.ensures
     c.shl.new.nodes word _ refl c.told-b has (found c.is_signed-signed.result false))
-    c.shl.ensures.number c.shl.ensures.value
+    c.shl.ensures.makes.number c.shl.ensures.value
 
 pub returns-in-Shr-clause-value : goal.returns-in-Shr-clause-value
 returns-in-Shr-clause-value c =
@@ -97,7 +97,7 @@ returns-in-Shr-clause-value c =
     (λ word has found. given-shift c.args.nodes.now c.args.a.now c.args.b.now c.args.op Shr c.args.t
     c.is_signed-signed.result c.in-Shr.is c.is_signed-signed.ensures
     c.shr.new.nodes word _ refl c.told-b has (found false))
-    c.shr.ensures.number c.shr.ensures.value
+    c.shr.ensures.makes.number c.shr.ensures.value
 
 pub returns-in_ok-below-in-Lt-clause-value : goal.returns-in_ok-below-in-Lt-clause-value
 returns-in_ok-below-in-Lt-clause-value c =
@@ -149,7 +149,7 @@ returns-in_ok-same-in-Eq-clause-value c =
     c.in-Eq.is c.is_signed-signed.ensures
     c.equal.new.nodes c.truth_word-in-Eq.result
     (λ free. truth free c.equal.new.nodes c.in_ok-same-in-Eq.same) refl
-    (c.truth_word-in-Eq.ensures c.equal.new.nodes c.in_ok-same-in-Eq.ensures.same.is_bit)
+    (c.truth_word-in-Eq.ensures c.equal.new.nodes c.in_ok-same-in-Eq.ensures.makes.value.is_bit)
     (λ free. c.in_ok-same-in-Eq.ensures.value c.is_signed-signed.result free)
 
 pub returns-in_ok-alike-in-Ne-clause-value : goal.returns-in_ok-alike-in-Ne-clause-value
@@ -158,7 +158,7 @@ returns-in_ok-alike-in-Ne-clause-value c =
     c.in-Ne.is c.is_signed-signed.ensures
     c.equal-in-Ne.new.nodes c.negated_word-in-Ne.result
     (λ free. not (truth free c.equal-in-Ne.new.nodes c.in_ok-alike-in-Ne.alike)) refl
-    (c.negated_word-in-Ne.ensures c.equal-in-Ne.new.nodes c.in_ok-alike-in-Ne.ensures.same.is_bit)
+    (c.negated_word-in-Ne.ensures c.equal-in-Ne.new.nodes c.in_ok-alike-in-Ne.ensures.makes.value.is_bit)
     (λ free. ne-value (word_type c.is_signed-signed.result)
     (read c.is_signed-signed.result (number_of free c.args.nodes.now c.args.a.now))
     (read c.is_signed-signed.result (number_of free c.args.nodes.now c.args.b.now)) _

@@ -10,4 +10,4 @@ returns-clause-value c =
     on_ok c.nonzero.result _ _
     (λ bit has. HasValue-same c.nonzero.new.nodes bit _ _ has
     (λ free. sym (nonzero-pos (number_of free c.args.nodes.now c.args.a.now))))
-    c.nonzero.ensures.some
+    c.nonzero.ensures.makes.value

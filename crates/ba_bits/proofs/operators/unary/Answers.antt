@@ -10,7 +10,7 @@ returns-in-Neg-clause-value c =
     (λ word has found. given-one c.args.nodes.now c.args.a.now c.args.op Neg c.args.t c.in-Neg.is
     c.requires.promoted
     c.neg.new.nodes word has.long has.are_bits found)
-    c.neg.ensures.number c.neg.ensures.value
+    c.neg.ensures.makes.number c.neg.ensures.value
 
 pub returns-in-Flip-clause-value : goal.returns-in-Flip-clause-value
 returns-in-Flip-clause-value c =
@@ -24,5 +24,5 @@ returns-in_ok-some-in-IsZero-clause-value c =
     given-test c.args.nodes.now c.args.a.now c.args.op IsZero c.args.t c.in-IsZero.is c.requires.promoted
     c.nonzero.new.nodes c.negated_word.result
     (λ free. not (truth free c.nonzero.new.nodes c.in_ok-some-in-IsZero.some))
-    (c.negated_word.ensures c.nonzero.new.nodes c.in_ok-some-in-IsZero.ensures.some.is_bit)
+    (c.negated_word.ensures c.nonzero.new.nodes c.in_ok-some-in-IsZero.ensures.makes.value.is_bit)
     c.in_ok-some-in-IsZero.ensures.value

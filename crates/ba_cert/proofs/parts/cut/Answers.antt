@@ -10,6 +10,7 @@ returns-in-Some c =
     let place = c.in-Some.place in
     cut-space line place (sym c.space_in.ensures.place ∙ c.in-Some.is)
     ∙ ap (λ rest. take place line ∷ parts_of rest) (sym (take_rest line (place + 1)))
+    ∙ ap (λ parts. take place line ∷ parts) (sym c.new.ensures)
 
 pub returns-in-None : goal.returns-in-None
 returns-in-None c = cut-none c.args.line.now (sym c.space_in.ensures.place ∙ c.in-None.is)

@@ -1,8 +1,7 @@
-use Rattle.ba_cert.proofs.LineLaws.{found-line, bad-line}
+use Rattle.std.proofs.Common.{refl}
+use Rattle.ba_cert.specs.Reading.{step_in}
+use Rattle.ba_cert.proofs.LineLaws.{step-read}
 use Rattle.ba_cert.proofs.reader.read_line.Goals as goal
 
-pub returns-clause-found : goal.returns-clause-found
-returns-clause-found c = found-line c.step_in.result c.args.line.now c.step_in.ensures
-
-pub returns-clause-bad_line : goal.returns-clause-bad_line
-returns-clause-bad_line c = bad-line c.step_in.result c.args.line.now c.step_in.ensures
+pub returns-clause-reads : goal.returns-clause-reads
+returns-clause-reads c = step-read c.args.line.now (step_in c.args.line.now) refl

@@ -1,10 +1,8 @@
-use Rattle.std.proofs.Common.{◌++◌}
 use Rattle.ba_check.proofs.CourseLaws.{refused-found, refused-stays}
 use Rattle.ba_check.proofs.laws.refused_law.Goals as goal
 
 pub returns : goal.returns
 returns c = record {
   stays = λ head p text more refusal e. refused-stays head p text more refusal.0 refusal.1 e;
-  found = λ head p text more line code e.
-      refused-found head p (text ++ more) line code (refused-stays head p text more line code e);
+  found = refused-found;
 }

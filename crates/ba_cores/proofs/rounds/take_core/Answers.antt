@@ -10,15 +10,14 @@ no_literal n e = grind (arith, nat_tests)
 
 pub returns-then-is_empty-clause-found : goal.returns-then-is_empty-clause-found
 returns-then-is_empty-clause-found g c =
-    let s = (g.L.ProofLog.log c.args.log.now).checker in
-    none_of_core (g.L.ProofLog.log c.args.log.now).accepts s (literals_of s.softs) c.args.core.lits
-    c.args.core.hints c.args.core.back c.requires.core c.requires.ready.none_blocked
+    let log = g.L.ProofLog.log c.args.log.now in
+    none_of_core log (literals_of log.checker.softs) c.args.core.lits
+    c.args.core.hints c.args.core.back c.requires.core c.requires.stands.ready.none_blocked
     (no_literal (length c.args.core.lits) (sym c.is_empty.ensures ∙ c.if-is_empty.true))
 
-pub returns-then-is_empty-clause-puts : goal.returns-then-is_empty-clause-puts
-returns-then-is_empty-clause-puts g c = puts_none (g.L.ProofLog.log c.args.log.now).accepts
-    (g.L.ProofLog.log c.args.log.now).checker (g.L.ProofLog.log c.args.log.now).told.logs
+pub returns-then-is_empty-clause-put : goal.returns-then-is_empty-clause-put
+returns-then-is_empty-clause-put g c =
+    record { goes_on = c.requires.stands.goes_on; puts = puts_none (g.L.ProofLog.log c.args.log.now) }
 
 pub returns-then-is_empty-clause-leaves : goal.returns-then-is_empty-clause-leaves
-returns-then-is_empty-clause-leaves g c = leaves_none (g.L.ProofLog.log c.args.log.now).accepts
-    (g.L.ProofLog.log c.args.log.now).checker (g.L.ProofLog.log c.args.log.now).told.logs
+returns-then-is_empty-clause-leaves g c = leaves_none (g.L.ProofLog.log c.args.log.now)

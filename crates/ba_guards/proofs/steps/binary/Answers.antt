@@ -1,4 +1,3 @@
-use Rattle.std.proofs.Common.{ap}
 use Rattle.ba_guards.proofs.Arms.{binary-arm}
 use Rattle.ba_guards.proofs.steps.binary.Goals as goal
 
@@ -9,5 +8,4 @@ returns c = λ d fits h. binary-arm d c.args.b.now c.operand.new.self c.operand-
     c.in_ok-left.ensures.same c.in_ok-left.ensures.word
     c.in_ok-right.ensures.same c.in_ok-right.ensures.word c.in_ok-demand_divisor.ensures c.binary.new.self
     c.in_ok-word.word
-    c.in_ok-word.ensures (ap (λ vs. record c.demand_divisor.new.b { words = c.binary.new.self; vars = vs })
-    c.in_ok-set.ensures)
+    c.in_ok-word.ensures c.in_ok-assign.ensures

@@ -1,4 +1,3 @@
-use Rattle.std.proofs.Common.{ap}
 use Rattle.ba_guards.proofs.Arms.{convert-arm}
 use Rattle.ba_guards.proofs.steps.convert.Goals as goal
 
@@ -6,4 +5,4 @@ pub returns : goal.returns
 returns c = λ d fits h. convert-arm d c.args.b.now c.operand.new.self _ c.args.to c.in_ok-a.a c.args.a fits
     c.in_ok-a.ensures.same c.in_ok-a.ensures.word c.args.t c.convert.new.self c.in_ok-word.word h
     c.in_ok-word.ensures
-    (ap (λ vs. record c.operand.new.self { words = c.convert.new.self; vars = vs }) c.in_ok-set.ensures)
+    c.in_ok-assign.ensures

@@ -1,4 +1,4 @@
-use Rattle.std.proofs.Common.{◌≤◌, ◌&&◌, ap, subst, arith}
+use Rattle.std.proofs.Common.{◌≤◌, ◌&&◌, subst, arith}
 use Rattle.std.proofs.lemmas.Bool.{and_parts}
 use Rattle.ba_code.specs.Facts.{is_array, is_operand, is_var}
 use Rattle.ba_code.specs.Meaning.{info_at}
@@ -28,4 +28,4 @@ returns c = λ vars infos fits h.
     (λ f. element_read (elements_in c.demand_index.new.b.words a f) (word_in c.demand_index.new.b.words
     c.in_ok-index.index f)))
     c.at.ensures (c.in_ok-word.ensures fit (omega (arith, below, c.at.ensures)) index_below))
-    (ap (λ vs. record c.demand_index.new.b { words = c.read.new.self; vars = vs }) c.in_ok-set.ensures)
+    c.in_ok-assign.ensures

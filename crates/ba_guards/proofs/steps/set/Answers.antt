@@ -1,10 +1,7 @@
-use Rattle.std.proofs.Common.{ap}
 use Rattle.ba_guards.proofs.Arms.{set-arm}
 use Rattle.ba_guards.proofs.steps.set.Goals as goal
 
 pub returns : goal.returns
 returns c = λ d fits h. set-arm d c.args.b.now c.operand.new.self _ c.args.to c.in_ok-word.word c.args.from
     fits
-    c.in_ok-word.ensures.same c.in_ok-word.ensures.word h (ap (λ vs. record c.operand.new.self {
-      vars = vs;
-    }) c.in_ok-set.ensures)
+    c.in_ok-word.ensures.same c.in_ok-word.ensures.word h c.in_ok-assign.ensures

@@ -1,19 +1,19 @@
-use Rattle.std.proofs.Common.{◌≡◌, ◌<◌, ℕ, zero, suc, true, false, sym, ◌∙◌, ap, subst, List, [], ◌∷◌, ◌++◌, ◌==◌, ◌&&◌, length, take, get_or, arith}
+use Rattle.std.proofs.Common.{◌≡◌, ◌<◌, ℕ, zero, suc, true, false, sym, ◌∙◌, ap, subst, List, [], ◌∷◌, ◌++◌, length, take, get_or, arith}
 use Rattle.std.proofs.lemmas.List.{take_all, take_more}
 use Rattle.std.proofs.lemmas.Result.{on_ok_weaker}
-use Rattle.std.specs.List.{list_all}
-use Rattle.ba_code.specs.Facts.{Declared, is_array, is_operand}
-use Rattle.ba_code.specs.Meaning.{choice_where, info_at}
+use Rattle.ba_code.specs.Facts.{Declared}
+use Rattle.ba_code.specs.Meaning.{choice_where}
 use Rattle.ba_code.specs.declared.nodes.Node.{Node}
-use Rattle.ba_code_laws.proofs.Equations.{trace-Assert, trace-Beyond, trace-Binary, trace-Block, trace-Convert, trace-If, trace-Leave, trace-Fill, trace-Load, trace-Pick, trace-Save, trace-Set, trace-Unary}
+use Rattle.ba_code_laws.proofs.Equations.{trace-Block, trace-If, trace-Pick}
 use Rattle.ba_code_laws.specs.Tracing.{at_place, is_relaxed, trace_node, trace_nodes, traced_picked, untraced}
 use Rattle.ba_guards.proofs.Choosing.{pick-arm}
-use Rattle.ba_guards.proofs.Fitting.{body-fit, first-fit, fit-Assert, fit-Binary, fit-Convert, fit-Fill, fit-Load, fit-Save, fit-Set, fit-Unary, keep-fit, rest-fit, sides-fit, unrolled-Loop}
+use Rattle.ba_guards.proofs.Fitting.{body-fit, first-fit, keep-fit, rest-fit, sides-fit}
 use Rattle.ba_guards.proofs.Going.{means-as, traced_of}
-use Rattle.ba_guards.proofs.Scopes.{leave-means, scoped}
+use Rattle.ba_guards.proofs.Scopes.{scoped}
 use Rattle.ba_guards.proofs.Walks.{block-arm, fork_part, if-arm, never-means, nodes-more, nodes-none, one-arm, sides-arm}
-use Rattle.ba_guards.specs.Making.{AreFit, IsFit, Means}
-use Rattle.ba_guards.specs.Parts.{assert_part, beyond_part, binary_part, convert_part, declared, fill_part, leave_part, load_part, save_part, set_part, unary_part}
+use Rattle.ba_guards.specs.Making.{AreFit, AreSides, IsFit, Means}
+use Rattle.ba_guards.specs.Parts.{declared}
+use Rattle.ba_guards.specs.declared.builder.Sides.{Sides}
 use Rattle.ba_tree.specs.Acts.{then_do}
 use Rattle.ba_guards.proofs.walking.+walk.Goals as goal
 
@@ -66,8 +66,8 @@ guard_node-returns-in_ok-guard_nodes-in-If-2 t c = on_ok_weaker c.join-in-If.res
     (λ fits1 below. sides-arm d c.in_ok-which-in-If.which c.operand.new.self c.open-in-If.new.self
     c.guard_nodes-in-If.new.b c.switch-in-If.new.self
     c.guard_nodes-in-If-2.new.b _ (λ f r. trace_nodes r d.arrays yes) (λ f r. trace_nodes r d.arrays no)
-    c.in_ok-fork-in-If.fork
-    c.in_ok-sides-in-If.sides fits1 below c.in_ok-fork-in-If.ensures.fork c.in_ok-fork-in-If.ensures.opens
+    c.in_ok-fork-in-If.fork.value
+    c.in_ok-sides-in-If.sides.value fits1 below c.in_ok-fork-in-If.ensures.fork c.in_ok-fork-in-If.ensures.opens
     (λ fits2. subst (λ ns. Means d (λ f r. trace_nodes r d.arrays ns) c.open-in-If.new.self
     c.guard_nodes-in-If.new.b) c.as_slice-in-If.ensures.value
     (c.in_ok-guard_nodes-in-If.ensures vars infos fits2 (subst (AreFit d) (sym
@@ -117,7 +117,7 @@ guard_node-returns-in_ok-take_values-in-Pick t c = on_ok_weaker c.join.result (�
     (pick-arm d b c.add_place.new.self c.open.new.self c.guard_nodes.new.b c.switch.new.self
     c.take_values.new.b _ place take
     c.offered.new.words offer.keep offer.values (λ r. trace_nodes r d.arrays keep)
-    c.in_ok-fork-in-Pick.fork c.in_ok-sides-in-Pick.sides fits
+    c.in_ok-fork-in-Pick.fork.value c.in_ok-sides-in-Pick.sides.value fits
     (c.in_ok-offer-in-Pick.ensures vars infos fits.words parts.0) c.in_ok-add_place-in-Pick.ensures
     c.in_ok-fork-in-Pick.ensures.fork c.in_ok-fork-in-Pick.ensures.opens
     (λ fits2. subst (λ ns. Means d (λ f r. trace_nodes r d.arrays ns) c.open.new.self c.guard_nodes.new.b)
@@ -125,8 +125,9 @@ guard_node-returns-in_ok-take_values-in-Pick t c = on_ok_weaker c.join.result (�
     (c.in_ok-guard_nodes-in-Pick.ensures vars infos fits2 (subst (AreFit d) (sym
     c.as_slice.ensures.value) parts.1)))
     c.in_ok-sides-in-Pick.ensures.sides c.in_ok-sides-in-Pick.ensures.switches
-    (λ fits4 sides second names right. c.in_ok-take_values-in-Pick.ensures vars infos fits4 parts.0 sides
-    second names right)
+    (λ fits4 sides second names right. c.in_ok-take_values-in-Pick.ensures vars infos fits4 parts.0
+    (subst (AreSides c.switch.new.self.words) (sym c.deref.ensures) sides)
+    (second ∙ sym (ap (λ (s : Sides). s.second) c.deref.ensures)) names right)
     made)
     (λ f r cs. sym (trace-Pick r d.arrays n (traced_of f b cs) place take c.in-Pick.keep c.in-Pick.is)))
     c.join.ensures

@@ -1,20 +1,15 @@
-use Rattle.std.proofs.Common.{◌≡◌, ◌<◌, ℕ, zero, suc, true, false, sym, ◌∙◌, ap, subst, List, [], ◌∷◌, ◌++◌, ◌==◌, ◌&&◌, length, take, get_or, arith}
-use Rattle.std.proofs.lemmas.List.{take_all, take_more}
+use Rattle.std.proofs.Common.{◌≡◌, true, false, sym, ◌∙◌, ap, subst, ◌==◌, ◌&&◌, length}
 use Rattle.std.proofs.lemmas.Result.{on_ok_weaker}
 use Rattle.std.specs.List.{list_all}
-use Rattle.ba_code.specs.Facts.{Declared, is_array, is_operand}
-use Rattle.ba_code.specs.Meaning.{choice_where, info_at}
-use Rattle.ba_code.specs.declared.nodes.Node.{Node}
-use Rattle.ba_code_laws.proofs.Equations.{trace-Assert, trace-Beyond, trace-Binary, trace-Block, trace-Convert, trace-If, trace-Leave, trace-Fill, trace-Load, trace-Pick, trace-Save, trace-Set, trace-Unary}
-use Rattle.ba_code_laws.specs.Tracing.{at_place, is_relaxed, trace_node, trace_nodes, traced_picked, untraced}
-use Rattle.ba_guards.proofs.Choosing.{pick-arm}
-use Rattle.ba_guards.proofs.Fitting.{body-fit, first-fit, fit-Assert, fit-Binary, fit-Convert, fit-Fill, fit-Load, fit-Save, fit-Set, fit-Unary, keep-fit, rest-fit, sides-fit, unrolled-Loop}
+use Rattle.ba_code.specs.Facts.{is_array, is_operand}
+use Rattle.ba_code.specs.Meaning.{info_at}
+use Rattle.ba_code_laws.proofs.Equations.{trace-Assert, trace-Beyond, trace-Binary, trace-Convert, trace-Leave, trace-Fill, trace-Load, trace-Save, trace-Set, trace-Unary}
+use Rattle.ba_code_laws.specs.Tracing.{trace_node}
+use Rattle.ba_guards.proofs.Fitting.{fit-Assert, fit-Binary, fit-Convert, fit-Fill, fit-Load, fit-Save, fit-Set, fit-Unary, unrolled-Loop}
 use Rattle.ba_guards.proofs.Going.{means-as, traced_of}
-use Rattle.ba_guards.proofs.Scopes.{leave-means, scoped}
-use Rattle.ba_guards.proofs.Walks.{block-arm, fork_part, if-arm, never-means, nodes-more, nodes-none, one-arm, sides-arm}
-use Rattle.ba_guards.specs.Making.{AreFit, IsFit, Means}
+use Rattle.ba_guards.proofs.Scopes.{leave-means}
+use Rattle.ba_guards.specs.Making.{Means}
 use Rattle.ba_guards.specs.Parts.{assert_part, beyond_part, binary_part, convert_part, declared, fill_part, leave_part, load_part, save_part, set_part, unary_part}
-use Rattle.ba_tree.specs.Acts.{then_do}
 use Rattle.ba_guards.proofs.walking.guard_leaf.Goals as goal
 
 pub returns-in-Set : goal.returns-in-Set

@@ -12,8 +12,8 @@ use Rattle.ba_tree.specs.declared.run.Halt.TheVariants.{WrongChoices}
 use Rattle.ba_wordlist.specs.Meaning.{Assignment}
 use Rattle.ba_guards.proofs.walking.take_values.Goals as goal
 
-pub returns-in_ok-set-in-Value : goal.returns-in_ok-set-in-Value
-returns-in_ok-set-in-Value c = λ vars infos fits fit sides second names right.
+pub returns-in_ok-assign-in-Value : goal.returns-in_ok-assign-in-Value
+returns-in_ok-assign-in-Value c = λ vars infos fits fit sides second names right.
     let d = declared vars c.args.arrays.now in
     let b = c.args.b.now in
     let there = subst (λ k. is_take d k ≡ true) c.in-Value.is fit in
@@ -23,12 +23,12 @@ returns-in_ok-set-in-Value c = λ vars infos fits fit sides second names right.
     f r. picked d c.args.take (values_in b.words c.args.values f)) b _
     (value-arm d b _ c.in-Value.to c.word_at.result c.in-Value.t c.args.values fits there names good
     c.word_at.ensures
-    (ap (λ vs. record b { vars = vs }) c.in_ok-set-in-Value.ensures))
+    c.in_ok-assign-in-Value.ensures)
     (λ f r cs. ap (λ k. picked d k (values_in b.words c.args.values f) (traced_of f b cs)) (sym
     c.in-Value.is))
 
-pub returns-in_ok-set-in-Truth : goal.returns-in_ok-set-in-Truth
-returns-in_ok-set-in-Truth c = λ vars infos fits fit sides second names right.
+pub returns-in_ok-assign-in-Truth : goal.returns-in_ok-assign-in-Truth
+returns-in_ok-assign-in-Truth c = λ vars infos fits fit sides second names right.
     let d = declared vars c.args.arrays.now in
     let b = c.args.b.now in
     let there = subst (λ k. is_take d k ≡ true) c.in-Truth.is fit in
@@ -38,7 +38,7 @@ returns-in_ok-set-in-Truth c = λ vars infos fits fit sides second names right.
     c.args.take (values_in b.words c.args.values f)) b _
     (truth-arm d b _ c.in-Truth.to c.word_at-in-Truth.result c.args.values fits there names good
     c.word_at-in-Truth.ensures
-    (ap (λ vs. record b { vars = vs }) c.in_ok-set-in-Truth.ensures))
+    c.in_ok-assign-in-Truth.ensures)
     (λ f r cs. ap (λ k. picked d k (values_in b.words c.args.values f) (traced_of f b cs)) (sym
     c.in-Truth.is))
 
@@ -65,7 +65,7 @@ returns-in_ok-version-in-Cell c = λ vars infos fits fit sides second names righ
     ))))
     c.write_second.new.self c.in_ok-version-in-Cell.version c.at.ensures c.in_ok-version-in-Cell.ensures
     (ap (λ xs. record c.demand_index.new.b { words = c.write_second.new.self; arrays = xs })
-    c.set-in-Cell.ensures))
+    c.set.ensures))
     (λ f r cs. ap (λ k. picked d k (values_in b.words c.args.values f) (traced_of f b cs)) (sym c.in-Cell.is))
 
 pub returns-in_ok-version-in-Cells : goal.returns-in_ok-version-in-Cells

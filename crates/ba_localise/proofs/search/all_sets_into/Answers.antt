@@ -3,7 +3,7 @@ use Rattle.ba_checker.specs.States.{State, clause_at, first_state}
 use Rattle.ba_encode.specs.Softs.{softs_of}
 use Rattle.ba_enum.specs.Problems.{IsReadable}
 use Rattle.ba_learn.specs.Live.{AreLive}
-use Rattle.ba_localise.proofs.Concluding.{leaves-same, rose-second}
+use Rattle.ba_localise.proofs.Concluding.{leaves-same, rose-same}
 use Rattle.ba_localise.proofs.search.all_sets_into.Goals as goal
 
 pub returns-clause-cause : goal.returns-clause-cause
@@ -11,7 +11,7 @@ returns-clause-cause g c = λ is. elim (c.all_sets-answer.ensures.ran.cause is) 
   | inl failed ↦ absurd (cc (sym c.requires.started.working ∙ failed))
   | inr rose ↦
       let start = ap (λ x. x.told.faults) c.new-checked.ensures in
-      rose-second _ _ _ _ start (first_of (search rules, cc, grind arith)) rose
+      rose-same _ _ _ _ start (first_of (search rules, cc, grind arith)) rose
 ]
 
 pub returns-clause-leaves : goal.returns-clause-leaves

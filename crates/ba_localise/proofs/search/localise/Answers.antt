@@ -130,7 +130,8 @@ returns-clause-cause g c = λ is.
 pub new-requires : goal.new-requires
 new-requires g c =
     let encoded = c.in_ok-encoded.encoded in
-    let selectors = subst (λ (f : Cnf). AreSelectors f.variables c.as_slice.result.now) (sym c.formula.ensures)
+    let selectors = subst (λ (f : Cnf). AreSelectors f.variables c.as_slice.result.now) (sym
+    c.formula.ensures)
     (subst (λ (ss : List Soft). AreSelectors encoded.formula.variables ss)
     (sym (c.as_slice.ensures.value ∙ c.in_ok-softs.ensures)) c.in_ok-encoded.ensures.faithful.selectors) in
     record { selectors = selectors }

@@ -1,6 +1,6 @@
 use Rattle.std.proofs.Common.{◌<◌, ◌+◌, length, sym, ◌∙◌, ◌&&◌, arith}
 use Rattle.ba_nodes.specs.Gates.{truth}
-use Rattle.ba_nodes.proofs.Truths.{Extends-through}
+use Rattle.ba_nodes.proofs.Truths.{Grows-through}
 use Rattle.ba_words.specs.Words.{low_number, bit_at}
 use Rattle.ba_words.proofs.Circuits.{LowIs-more, HasValue-same}
 use Rattle.ba_words.proofs.Places.{low_number-more}
@@ -16,15 +16,15 @@ loop-place-preserved c =
     let l = c.loop-place.invariant in
     let within : p < length word = omega (arith, c.told-word) in
     record {
-      extends = Extends-through old c.loop-place.nodes c.and.new.self l.extends c.and.ensures.extends;
+      grows = Grows-through old c.loop-place.nodes c.and.new.self l.grows c.and.ensures.makes.grows
+          (omega arith);
       number = LowIs-more c.loop-place.nodes c.and.new.self c.loop-place.out p c.in_ok-out.field-0 _
           (λ free. low_number free old word (p + 1)) (λ free. truth free old (bit_at word p)) (omega arith)
-          c.and.ensures.extends l.number
-          (HasValue-same c.and.new.self c.in_ok-out.field-0 _ _ c.in_ok-out.ensures.value
+          c.and.ensures.makes.grows.extends l.number
+          (HasValue-same c.and.new.self c.in_ok-out.field-0 _ _ c.in_ok-out.ensures.makes.value
           (λ free.
-          (λ i. l.extends.keeps free (bit_at word p) (c.requires.first p) i && l.extends.keeps free
-          (bit_at bounds p) (c.requires.second p) i)
+          (λ i. l.grows.extends.keeps free (bit_at word p) (c.requires.words.first p) i
+          && l.grows.extends.keeps free (bit_at bounds p) (c.requires.words.second p) i)
           ∙ bounded_place free old word bounds p c.told-word (omega arith) (c.requires.small free)))
           (λ free. sym (low_number-more free old word p within));
-      count = omega arith;
     }

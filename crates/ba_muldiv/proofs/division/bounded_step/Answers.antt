@@ -8,19 +8,18 @@ use Rattle.ba_muldiv.proofs.division.bounded_step.Goals as goal
 
 pub fits_into_nonzero-requires-clause-none : goal.fits_into_nonzero-requires-clause-none
 fits_into_nonzero-requires-clause-none c free none does =
-    no_ones free c.args.nodes.now c.step.new.nodes c.args.divisor.now c.args.above.now c.step.ensures.extends
-    c.requires.second c.requires.above
-    (number_of-extends free c.args.nodes.now c.step.new.nodes c.args.divisor.now c.step.ensures.extends
-    c.requires.second
-    ∙ none_fits free c.args.nodes.now c.step.new.nodes c.args.bounds.now
+    no_ones free c.args.nodes.now c.step.new.nodes c.args.divisor.now c.args.above.now
+    c.step.ensures.grows.extends c.requires.words.second c.requires.above
+    (number_of-extends free c.args.nodes.now c.step.new.nodes c.args.divisor.now c.step.ensures.grows.extends
+    c.requires.words.second ∙ none_fits free c.args.nodes.now c.step.new.nodes c.args.bounds.now
     (number_of free c.args.nodes.now c.args.divisor.now) (number_of free c.args.nodes.now c.args.rest.now)
-    (truth free c.step.new.nodes c.in_ok-enough.enough) c.step.ensures.extends c.requires.third
+    (truth free c.step.new.nodes c.in_ok-enough.enough) c.step.ensures.grows.extends c.requires.third
     (c.requires.bounds free) (c.in_ok-enough.ensures.fits.holds free) none does)
 
 pub fits_into_nonzero-requires-clause-third : goal.fits_into_nonzero-requires-clause-third
 fits_into_nonzero-requires-clause-third c =
-    (ones-extends c.args.nodes.now c.step.new.nodes c.args.divisor.now c.args.above.now c.step.ensures.extends
-    c.requires.second c.requires.above 0 (omega arith)).is_bit
+    (ones-extends c.args.nodes.now c.step.new.nodes c.args.divisor.now c.args.above.now
+    c.step.ensures.grows.extends c.requires.words.second c.requires.above 0 (omega arith)).is_bit
 
 pub step-requires-clause-wider : goal.step-requires-clause-wider
 step-requires-clause-wider c =
@@ -36,12 +35,12 @@ bounded-requires-clause-small c free =
     let left : number_of free c.fits_into_nonzero.new.nodes c.in_ok-enough.difference
     ≡ (if nat_le d n then n - d else n) =
     number_of-extends free c.step.new.nodes c.fits_into_nonzero.new.nodes c.in_ok-enough.difference
-    c.fits_into_nonzero.ensures.extends c.in_ok-enough.ensures.left.are_bits
+    c.fits_into_nonzero.ensures.grows.extends c.in_ok-enough.ensures.left.are_bits
     ∙ c.in_ok-enough.ensures.left.holds free in
     bounded_later free old c.fits_into_nonzero.new.nodes c.args.bounds.now
     (number_of free c.fits_into_nonzero.new.nodes c.in_ok-enough.difference) n
-    (Extends-through old c.step.new.nodes c.fits_into_nonzero.new.nodes c.step.ensures.extends
-    c.fits_into_nonzero.ensures.extends) c.requires.third
+    (Extends-through old c.step.new.nodes c.fits_into_nonzero.new.nodes c.step.ensures.grows.extends
+    c.fits_into_nonzero.ensures.grows.extends) c.requires.third
     (subst (λ m. m ≤ n) (sym left) (left_below (nat_le d n) n d)) (c.requires.bounds free)
 
 pub returns-clause-left : goal.returns-clause-left
@@ -51,6 +50,6 @@ returns-clause-left c = record {
   holds = λ free.
       c.in_ok-left.ensures.number.holds free
       ∙ number_of-extends free c.step.new.nodes c.fits_into_nonzero.new.nodes c.in_ok-enough.difference
-      c.fits_into_nonzero.ensures.extends c.in_ok-enough.ensures.left.are_bits
+      c.fits_into_nonzero.ensures.grows.extends c.in_ok-enough.ensures.left.are_bits
       ∙ c.in_ok-enough.ensures.left.holds free;
 }

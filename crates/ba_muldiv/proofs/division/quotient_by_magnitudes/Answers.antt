@@ -1,17 +1,16 @@
-use Rattle.std.proofs.Common.{◌≡◌, ap, ◌∙◌}
-use Rattle.ba_nodes.specs.Gates.{bool_xor, Extends}
+use Rattle.std.proofs.Common.{◌≡◌, ap, ◌∙◌, rules}
+use Rattle.ba_nodes.specs.Gates.{bool_xor}
 use Rattle.ba_nodes.proofs.Truths.{Extends-through}
 use Rattle.ba_words.specs.Words.{number_of}
-use Rattle.ba_words.proofs.Outcomes.{on_ok}
+use Rattle.ba_words.proofs.Outcomes.{on_ok, makes_word}
 use Rattle.ba_words.proofs.Places.{number_of-extends}
 use Rattle.ba_muldiv.specs.Division.{negated_where, magnitude, long_quotient}
 use Rattle.ba_muldiv.proofs.Rows.{sign_value, sign_bit}
 use Rattle.ba_muldiv.proofs.division.quotient_by_magnitudes.Goals as goal
 
-pub returns-clause-number : goal.returns-clause-number
-returns-clause-number c =
-    on_ok c.negated_where-3.result _ _
-    (λ word has. record {
+pub returns : goal.returns
+returns c = makes_word (search rules)
+    (on_ok c.negated_where-3.result _ _ (λ word has. record {
       long = has.long;
       are_bits = has.are_bits;
       holds = λ free.
@@ -26,30 +25,27 @@ returns-clause-number c =
           let dividend : number_of free c.negated_where-2.new.nodes c.in_ok-dividend.dividend
           ≡ magnitude c.args.signed (number_of free c.args.nodes.now c.args.a.now) =
           number_of-extends free c.negated_where.new.nodes c.negated_where-2.new.nodes
-          c.in_ok-dividend.dividend c.negated_where-2.ensures.extends
+          c.in_ok-dividend.dividend c.negated_where-2.ensures.grows.extends
           c.in_ok-dividend.ensures.number.are_bits
           ∙ c.in_ok-dividend.ensures.number.holds free
           ∙ ap (λ t. negated_where t (number_of free c.args.nodes.now c.args.a.now)) a_sign in
           let divisor : number_of free c.negated_where-2.new.nodes c.in_ok-divisor.divisor
           ≡ magnitude c.args.signed (number_of free c.args.nodes.now c.args.b.now) =
           c.in_ok-divisor.ensures.number.holds free
-          ∙ (λ i. negated_where ((c.negated_where.ensures.extends.keeps free c.sign_of-b_sign.result b_bit
-          ∙ b_sign) i)
-          (number_of-extends free c.args.nodes.now c.negated_where.new.nodes c.args.b.now
-          c.negated_where.ensures.extends c.requires.second i)) in
-          let lower : Extends c.args.nodes.now c.negated_where-2.new.nodes =
-          Extends-through c.args.nodes.now c.negated_where.new.nodes c.negated_where-2.new.nodes
-          c.negated_where.ensures.extends c.negated_where-2.ensures.extends in
-          let all : Extends c.args.nodes.now c.long_quotient.new.nodes =
-          Extends-through c.args.nodes.now c.negated_where-2.new.nodes c.long_quotient.new.nodes lower
-          c.long_quotient.ensures.extends in
-          let negative = c.in_ok-negative.ensures.value.holds free
+          ∙ (λ i. negated_where ((c.negated_where.ensures.grows.extends.keeps free c.sign_of-b_sign.result
+          b_bit ∙ b_sign) i) (number_of-extends free c.args.nodes.now c.negated_where.new.nodes c.args.b.now
+          c.negated_where.ensures.grows.extends c.requires.second i)) in
+          let lower = Extends-through c.args.nodes.now c.negated_where.new.nodes c.negated_where-2.new.nodes
+          c.negated_where.ensures.grows.extends c.negated_where-2.ensures.grows.extends in
+          let all = Extends-through c.args.nodes.now c.negated_where-2.new.nodes c.long_quotient.new.nodes
+          lower c.long_quotient.ensures.grows.extends in
+          let negative = c.in_ok-negative.ensures.makes.value.holds free
           ∙ (λ i. bool_xor ((all.keeps free c.sign_of-a_sign.result a_bit ∙ a_sign) i)
           ((all.keeps free c.sign_of-b_sign.result b_bit ∙ b_sign) i)) in
           let quotient = number_of-extends free c.long_quotient.new.nodes c.xor.new.self
-          c.in_ok-quotient.quotient c.xor.ensures.extends c.in_ok-quotient.ensures.number.are_bits
+          c.in_ok-quotient.quotient c.xor.ensures.makes.grows.extends c.in_ok-quotient.ensures.number.are_bits
           ∙ c.in_ok-quotient.ensures.number.holds free
           ∙ (λ i. long_quotient 32 (dividend i) (divisor i)) in
           has.holds free ∙ (λ i. negated_where (negative i) (quotient i));
     })
-    c.negated_where-3.ensures.number
+    c.negated_where-3.ensures.number)

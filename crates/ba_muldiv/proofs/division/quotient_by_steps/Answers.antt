@@ -1,5 +1,5 @@
-use Rattle.std.proofs.Common.{◌≡◌, ◌+◌, ◌*◌, ◌%◌, ◌^◌, not, nat_le, refl, sym, ap, ◌∙◌, arith}
-use Rattle.ba_nodes.specs.Gates.{truth, Extends}
+use Rattle.std.proofs.Common.{◌≡◌, ◌+◌, ◌*◌, ◌%◌, ◌^◌, not, nat_le, refl, sym, ap, ◌∙◌, arith, rules}
+use Rattle.ba_nodes.specs.Gates.{truth}
 use Rattle.ba_nodes.proofs.Truths.{Extends-through}
 use Rattle.ba_words.specs.Words.{digit, number_of, bit_at}
 use Rattle.ba_words.proofs.Places.{are_bits-extends, number_of-extends}
@@ -7,6 +7,7 @@ use Rattle.ba_muldiv.specs.Division.{long_quotient, high_number}
 use Rattle.ba_muldiv.proofs.Bounds.{none_fits, later_is, later_bounded, ones-extends, no_ones}
 use Rattle.ba_muldiv.proofs.Rows.{high_number-more, high_number_below}
 use Rattle.ba_muldiv.proofs.Steps.{le-not_lt, quotient_value, quotient_step}
+use Rattle.ba_words.proofs.Outcomes.{makes_word}
 use Rattle.ba_muldiv.proofs.division.quotient_by_steps.Goals as goal
 
 pub fits_into_nonzero-requires-clause-none : goal.fits_into_nonzero-requires-clause-none
@@ -14,21 +15,21 @@ fits_into_nonzero-requires-clause-none c free none does =
     let below = c.in_ok-exceeds.ensures.below refl in
     let d = number_of free c.next_bounds.new.nodes c.args.divisor.now in
     let n = number_of free c.next_bounds.new.nodes c.brought_down-last.result in
-    let extended : Extends c.args.nodes.now c.next_bounds.new.nodes = Extends-through c.args.nodes.now
-    c.upper_steps.new.nodes c.next_bounds.new.nodes c.upper_steps.ensures.extends
-    c.next_bounds.ensures.extends in
-    let whole : Extends c.args.nodes.now c.less.new.nodes = Extends-through c.args.nodes.now
-    c.next_bounds.new.nodes c.less.new.nodes extended c.less.ensures.extends in
-    no_ones free c.args.nodes.now c.less.new.nodes c.args.divisor.now c.args.above.now whole c.requires.second
-    c.requires.above
+    let extended = Extends-through c.args.nodes.now c.upper_steps.new.nodes c.next_bounds.new.nodes
+    c.upper_steps.ensures.grows.extends c.next_bounds.ensures.grows.extends in
+    let whole = Extends-through c.args.nodes.now c.next_bounds.new.nodes c.less.new.nodes extended
+    c.less.ensures.grows.extends in
+    no_ones free c.args.nodes.now c.less.new.nodes c.args.divisor.now c.args.above.now whole
+    c.requires.words.second c.requires.above
     (number_of-extends free c.next_bounds.new.nodes c.less.new.nodes c.args.divisor.now
-    c.less.ensures.extends (are_bits-extends c.args.nodes.now c.next_bounds.new.nodes c.args.divisor.now
-    extended c.requires.second)
+    c.less.ensures.grows.extends (are_bits-extends c.args.nodes.now c.next_bounds.new.nodes c.args.divisor.now
+    extended c.requires.words.second)
     ∙ none_fits free c.next_bounds.new.nodes c.less.new.nodes c.in_ok-last_bounds.last_bounds d n
-    (truth free c.less.new.nodes c.not.result) c.less.ensures.extends c.in_ok-last_bounds.ensures.bits
+    (truth free c.less.new.nodes c.not.result) c.less.ensures.grows.extends c.in_ok-last_bounds.ensures.bits
     (later_bounded free c.args.nodes.now c.upper_steps.new.nodes c.next_bounds.new.nodes
-    c.args.dividend.now c.in_ok-quotient.rest c.brought_down-last.result 31 (omega arith) c.requires.first
-    c.in_ok-quotient.ensures.rest.are_bits c.upper_steps.ensures.extends c.next_bounds.ensures.extends
+    c.args.dividend.now c.in_ok-quotient.rest c.brought_down-last.result 31 (omega arith)
+    c.requires.words.first c.in_ok-quotient.ensures.rest.are_bits c.upper_steps.ensures.grows.extends
+    c.next_bounds.ensures.grows.extends
     (c.brought_down-last.ensures.number c.next_bounds.new.nodes free) c.in_ok-last_bounds.last_bounds
     (c.in_ok-last_bounds.ensures.more free (number_of free c.upper_steps.new.nodes c.in_ok-quotient.rest)
     (c.in_ok-quotient.ensures.bounds free)))
@@ -39,20 +40,19 @@ fits_into_nonzero-requires-clause-third c =
     (ones-extends c.args.nodes.now c.less.new.nodes c.args.divisor.now c.args.above.now
     (Extends-through c.args.nodes.now c.next_bounds.new.nodes c.less.new.nodes (Extends-through
     c.args.nodes.now
-    c.upper_steps.new.nodes c.next_bounds.new.nodes c.upper_steps.ensures.extends
-    c.next_bounds.ensures.extends)
-    c.less.ensures.extends) c.requires.second c.requires.above 0 (omega arith)).is_bit
+    c.upper_steps.new.nodes c.next_bounds.new.nodes c.upper_steps.ensures.grows.extends
+    c.next_bounds.ensures.grows.extends)
+    c.less.ensures.grows.extends) c.requires.words.second c.requires.above 0 (omega arith)).is_bit
 
-pub returns-clause-number : goal.returns-clause-number
-returns-clause-number c =
-    let below = c.in_ok-exceeds.ensures.below refl in
-    let extended : Extends c.args.nodes.now c.next_bounds.new.nodes = Extends-through c.args.nodes.now
-    c.upper_steps.new.nodes c.next_bounds.new.nodes c.upper_steps.ensures.extends
-    c.next_bounds.ensures.extends in
-    let upper : Extends c.upper_steps.new.nodes c.fits_into_nonzero.new.nodes = Extends-through
-    c.upper_steps.new.nodes c.less.new.nodes c.fits_into_nonzero.new.nodes (Extends-through
-    c.upper_steps.new.nodes c.next_bounds.new.nodes c.less.new.nodes c.next_bounds.ensures.extends
-    c.less.ensures.extends) c.fits_into_nonzero.ensures.extends in
+pub returns : goal.returns
+returns c = makes_word (search rules)
+    (let below = c.in_ok-exceeds.ensures.below refl in
+    let extended = Extends-through c.args.nodes.now c.upper_steps.new.nodes c.next_bounds.new.nodes
+    c.upper_steps.ensures.grows.extends c.next_bounds.ensures.grows.extends in
+    let upper = Extends-through c.upper_steps.new.nodes c.less.new.nodes c.fits_into_nonzero.new.nodes
+    (Extends-through c.upper_steps.new.nodes c.next_bounds.new.nodes c.less.new.nodes
+    c.next_bounds.ensures.grows.extends c.less.ensures.grows.extends)
+    c.fits_into_nonzero.ensures.grows.extends in
     record {
       long = c.brought_down.ensures.long;
       are_bits = c.brought_down.ensures.bits c.fits_into_nonzero.new.nodes
@@ -60,12 +60,12 @@ returns-clause-number c =
           upper c.in_ok-quotient.ensures.quotient.are_bits) c.in_ok-fits.ensures.value.is_bit;
       holds = λ free.
           let kept = number_of-extends free c.args.nodes.now c.next_bounds.new.nodes c.args.divisor.now
-          extended c.requires.second in
+          extended c.requires.words.second in
           let now_is = later_is free c.args.nodes.now c.upper_steps.new.nodes c.next_bounds.new.nodes
           c.args.dividend.now c.in_ok-quotient.rest c.brought_down-last.result 31 (omega arith)
-          c.requires.first c.in_ok-quotient.ensures.rest.are_bits c.upper_steps.ensures.extends
-          c.next_bounds.ensures.extends (c.brought_down-last.ensures.number c.next_bounds.new.nodes free)
-          (number_of free c.args.nodes.now c.args.divisor.now) c.told-dividend
+          c.requires.words.first c.in_ok-quotient.ensures.rest.are_bits c.upper_steps.ensures.grows.extends
+          c.next_bounds.ensures.grows.extends (c.brought_down-last.ensures.number c.next_bounds.new.nodes
+          free) (number_of free c.args.nodes.now c.args.divisor.now) c.told-dividend
           (c.in_ok-quotient.ensures.rest.holds free) in
           let test : truth free c.fits_into_nonzero.new.nodes c.in_ok-fits.fits
           ≡ nat_le (number_of free c.args.nodes.now c.args.divisor.now)
@@ -96,4 +96,4 @@ returns-clause-number c =
           ∙ ap (λ h. long_quotient 32 h (number_of free c.args.nodes.now c.args.divisor.now))
           (sym (high_number-more free c.args.nodes.now c.args.dividend.now 0
           (omega (arith, c.told-dividend))));
-    }
+    })

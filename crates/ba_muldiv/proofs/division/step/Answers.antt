@@ -17,7 +17,7 @@ use Rattle.std.proofs.Common.{
   ◌∙◌,
   arith,
 }
-use Rattle.ba_nodes.specs.Gates.{truth, Extends}
+use Rattle.ba_nodes.specs.Gates.{truth}
 use Rattle.ba_nodes.proofs.Truths.{Extends-through}
 use Rattle.ba_words.specs.Words.{digit, number_of, low_number, bit_at}
 use Rattle.ba_words.proofs.Circuits.{HasValue-same}
@@ -57,17 +57,16 @@ module _ (c : goal.In_ok-left) (free : ℕ → Bool) where
   fits_is : truth free c.and.new.self c.in_ok-fits.fits ≡ nat_le (number_of free c.args.nodes.now
       c.args.divisor.now) (number_of free c.args.nodes.now c.args.rest.now)
   fits_is =
-      let lower : Extends c.args.nodes.now c.or.new.self = Extends-through c.args.nodes.now
-      c.add_with_carry.new.nodes c.or.new.self c.add_with_carry.ensures.extends c.or.ensures.extends in
+      let lower = Extends-through c.args.nodes.now c.add_with_carry.new.nodes c.or.new.self
+      c.add_with_carry.ensures.grows.extends c.or.ensures.makes.grows.extends in
       let above = ap (truth free c.add_with_carry.new.nodes) c.bit_at.ensures
-      ∙ c.add_with_carry.ensures.extends.keeps free (bit_at c.args.rest.now c.least-kept.result)
-      (c.requires.first c.least-kept.result) in
-      let enough = c.in_ok-enough.ensures.value.holds free
+      ∙ c.add_with_carry.ensures.grows.extends.keeps free (bit_at c.args.rest.now c.least-kept.result)
+      (c.requires.words.first c.least-kept.result) in
+      let enough = c.in_ok-enough.ensures.makes.value.holds free
       ∙ ap (λ t. truth free c.add_with_carry.new.nodes c.in_ok-difference.carry || t) above in
       let wider = c.not.ensures.value c.or.new.self free
       ∙ ap not (lower.keeps free c.args.wider c.requires.wider.is_bit ∙ c.requires.wider.holds free) in
-      c.in_ok-fits.ensures.value.holds free
-      ∙ (λ i. enough i && wider i)
+      c.in_ok-fits.ensures.makes.value.holds free ∙ (λ i. enough i && wider i)
       ∙ fits_value free c.args.nodes.now c.add_with_carry.new.nodes c.args.rest.now c.args.divisor.now
       c.extended-low.result c.extended.result c.flip-complement.result c.in_ok-difference.difference
       c.in_ok-difference.carry c.args.width c.args.known c.least-kept.result c.told-rest c.told-divisor
@@ -77,9 +76,9 @@ module _ (c : goal.In_ok-left) (free : ℕ → Bool) where
 
 pub returns-clause-fits : goal.returns-clause-fits
 returns-clause-fits c = record {
-  is_bit = omega (arith, c.in_ok-fits.ensures.value.is_bit, c.select.ensures.extends.grows);
-  holds = λ free. c.select.ensures.extends.keeps free c.in_ok-fits.fits c.in_ok-fits.ensures.value.is_bit ∙
-      fits_is c free;
+  is_bit = omega (arith, c.in_ok-fits.ensures.makes.value.is_bit, c.select.ensures.grows.extends.grows);
+  holds = λ free. c.select.ensures.grows.extends.keeps free c.in_ok-fits.fits
+      c.in_ok-fits.ensures.makes.value.is_bit ∙ fits_is c free;
 }
 
 pub returns-clause-left : goal.returns-clause-left
@@ -87,10 +86,10 @@ returns-clause-left c = record {
   long = c.in_ok-left.ensures.number.long;
   are_bits = c.in_ok-left.ensures.number.are_bits;
   holds = λ free.
-      let upper : Extends c.add_with_carry.new.nodes c.and.new.self = Extends-through
-      c.add_with_carry.new.nodes c.or.new.self c.and.new.self c.or.ensures.extends c.and.ensures.extends in
-      let all : Extends c.args.nodes.now c.and.new.self = Extends-through c.args.nodes.now
-      c.add_with_carry.new.nodes c.and.new.self c.add_with_carry.ensures.extends upper in
+      let upper = Extends-through c.add_with_carry.new.nodes c.or.new.self c.and.new.self
+      c.or.ensures.makes.grows.extends c.and.ensures.makes.grows.extends in
+      let all = Extends-through c.args.nodes.now c.add_with_carry.new.nodes c.and.new.self
+      c.add_with_carry.ensures.grows.extends upper in
       let difference : number_of free c.and.new.self c.extended-2.result ≡ low_number free
       c.add_with_carry.new.nodes c.in_ok-difference.difference c.least-kept.result =
       extended-number free c.and.new.self c.extended-2.result c.in_ok-difference.difference
@@ -99,7 +98,7 @@ returns-clause-left c = record {
       ((c.constant-no.ensures.value c.and.new.self).holds free) c.extended-2.ensures.places
       ∙ low_number-extends free c.add_with_carry.new.nodes c.and.new.self c.in_ok-difference.difference
       c.least-kept.result upper c.in_ok-difference.ensures.bits.1 in
-      let low_bits = c.extended-low.ensures.bits c.args.nodes.now c.requires.first
+      let low_bits = c.extended-low.ensures.bits c.args.nodes.now c.requires.words.first
       ((c.constant-no.ensures.value c.args.nodes.now).is_bit) in
       let low : number_of free c.and.new.self c.extended-low.result ≡ low_number free c.args.nodes.now
       c.args.rest.now c.least-kept.result =

@@ -1,6 +1,6 @@
 use Rattle.std.proofs.Common.{◌<◌, ◌≡◌, ℕ, Bool, ◌+◌, ◌-◌, ◌*◌, ◌%◌, ◌^◌, ◌≤◌, nat_le, replicate, refl, sym, ap, subst, ◌∙◌, arith, if◌then◌else◌}
-use Rattle.ba_nodes.specs.Gates.{truth, Extends}
-use Rattle.ba_nodes.proofs.Truths.{Extends-through, Extends_refl}
+use Rattle.ba_nodes.specs.Gates.{truth}
+use Rattle.ba_nodes.proofs.Truths.{Extends-through, Grows_refl}
 use Rattle.ba_words.specs.Words.{digit, number_of, bit_at}
 use Rattle.ba_words.proofs.Carries.{are_bits-replicate, number-zeros}
 use Rattle.ba_words.proofs.Places.{are_bits-extends, number_of-extends}
@@ -15,7 +15,7 @@ loop-i-init c =
     let zeros = are_bits-replicate c.args.nodes.now 32 c.constant-zero.result
     (c.constant-zero.ensures.value c.args.nodes.now).is_bit in
     record {
-      extends = Extends_refl c.args.nodes.now;
+      grows = Grows_refl c.args.nodes.now _;
       quotient = record {
         long = refl;
         are_bits = zeros;
@@ -44,16 +44,14 @@ loop-i-init c =
           (number_of free c.args.nodes.now (replicate 32 c.constant-zero.result))
           (number-zeros free c.args.nodes.now 32 c.constant-zero.result
           ((c.constant-zero.ensures.value c.args.nodes.now).holds free));
-      gates = omega arith;
     }
 
 pub bounded_step-requires-clause-bounds : goal.bounded_step-requires-clause-bounds
 bounded_step-requires-clause-bounds c free =
     later_bounded free c.args.nodes.now c.loop-i.nodes c.next_bounds.new.nodes
     c.args.dividend.now c.loop-i.rest c.brought_down-next.result c.loop-i.i (omega arith)
-    c.requires.first c.loop-i.invariant.rest.are_bits c.loop-i.invariant.extends
-    c.next_bounds.ensures.extends
-    (c.brought_down-next.ensures.number c.next_bounds.new.nodes free)
+    c.requires.words.first c.loop-i.invariant.rest.are_bits c.loop-i.invariant.grows.extends
+    c.next_bounds.ensures.grows.extends (c.brought_down-next.ensures.number c.next_bounds.new.nodes free)
     c.in_ok-bounds.bounds
     (c.in_ok-bounds.ensures.more free (number_of free c.loop-i.nodes c.loop-i.rest)
     (c.loop-i.invariant.bounded free))
@@ -61,8 +59,8 @@ bounded_step-requires-clause-bounds c free =
 pub bounded_step-requires-clause-above : goal.bounded_step-requires-clause-above
 bounded_step-requires-clause-above c =
     ones-extends c.args.nodes.now c.next_bounds.new.nodes c.args.divisor.now c.args.above.now
-    (Extends-through c.args.nodes.now c.loop-i.nodes c.next_bounds.new.nodes c.loop-i.invariant.extends
-    c.next_bounds.ensures.extends) c.requires.second c.requires.above
+    (Extends-through c.args.nodes.now c.loop-i.nodes c.next_bounds.new.nodes c.loop-i.invariant.grows.extends
+    c.next_bounds.ensures.grows.extends) c.requires.words.second c.requires.above
 
 pub bounded_step-requires-clause-narrow : goal.bounded_step-requires-clause-narrow
 bounded_step-requires-clause-narrow c free =
@@ -71,8 +69,8 @@ bounded_step-requires-clause-narrow c free =
 pub bounded_step-requires-clause-twice : goal.bounded_step-requires-clause-twice
 bounded_step-requires-clause-twice c below free =
     let kept = number_of-extends free c.args.nodes.now c.next_bounds.new.nodes c.args.divisor.now
-    (Extends-through c.args.nodes.now c.loop-i.nodes c.next_bounds.new.nodes c.loop-i.invariant.extends
-    c.next_bounds.ensures.extends) c.requires.second in
+    (Extends-through c.args.nodes.now c.loop-i.nodes c.next_bounds.new.nodes c.loop-i.invariant.grows.extends
+    c.next_bounds.ensures.grows.extends) c.requires.words.second in
     subst (λ d. number_of free c.next_bounds.new.nodes c.brought_down-next.result < 2 * d)
     (sym kept)
     (next_twice (high_number free c.args.nodes.now c.args.dividend.now (31 - c.loop-i.i + 1))
@@ -81,8 +79,8 @@ bounded_step-requires-clause-twice c below free =
     (truth free c.args.nodes.now (bit_at c.args.dividend.now (31 - c.loop-i.i)))
     (c.known_width-known.ensures.some below c.args.nodes.now free)
     (later_is free c.args.nodes.now c.loop-i.nodes c.next_bounds.new.nodes c.args.dividend.now c.loop-i.rest
-    c.brought_down-next.result c.loop-i.i (omega arith) c.requires.first c.loop-i.invariant.rest.are_bits
-    c.loop-i.invariant.extends c.next_bounds.ensures.extends
+    c.brought_down-next.result c.loop-i.i (omega arith) c.requires.words.first
+    c.loop-i.invariant.rest.are_bits c.loop-i.invariant.grows.extends c.next_bounds.ensures.grows.extends
     (c.brought_down-next.ensures.number c.next_bounds.new.nodes free)
     (number_of free c.args.nodes.now c.args.divisor.now) c.told-dividend
     (c.loop-i.invariant.rest.holds free)))
@@ -93,30 +91,32 @@ loop-i-preserved c =
     let place : 31 - c.loop-i.i + 1 ≡ 32 - c.loop-i.i = omega arith in
     let next : 32 - (c.loop-i.i + 1) ≡ 31 - c.loop-i.i = omega arith in
     let whole : 31 - c.loop-i.i + 1 + c.loop-i.i ≡ 32 = omega arith in
-    let upper : Extends c.loop-i.nodes c.bounded_step.new.nodes = Extends-through c.loop-i.nodes
-    c.next_bounds.new.nodes c.bounded_step.new.nodes c.next_bounds.ensures.extends
-    c.bounded_step.ensures.extends in
-    let extended : Extends c.args.nodes.now c.next_bounds.new.nodes = Extends-through c.args.nodes.now
-    c.loop-i.nodes c.next_bounds.new.nodes c.loop-i.invariant.extends c.next_bounds.ensures.extends in
+    let upper = Extends-through c.loop-i.nodes c.next_bounds.new.nodes c.bounded_step.new.nodes
+    c.next_bounds.ensures.grows.extends c.bounded_step.ensures.grows.extends in
+    let extended = Extends-through c.args.nodes.now c.loop-i.nodes c.next_bounds.new.nodes
+    c.loop-i.invariant.grows.extends c.next_bounds.ensures.grows.extends in
     let kept : (free : ℕ → Bool) → number_of free c.next_bounds.new.nodes c.args.divisor.now
     ≡ number_of free c.args.nodes.now c.args.divisor.now =
     λ free.
     number_of-extends free c.args.nodes.now c.next_bounds.new.nodes c.args.divisor.now extended
-    c.requires.second in
+    c.requires.words.second in
     let now_is : (free : ℕ → Bool) → number_of free c.next_bounds.new.nodes c.brought_down-next.result
     ≡ 2 * (high_number free c.args.nodes.now c.args.dividend.now (31 - c.loop-i.i + 1) % number_of free
     c.args.nodes.now c.args.divisor.now) + digit (truth free c.args.nodes.now
     (bit_at c.args.dividend.now (31 - c.loop-i.i))) =
     λ free.
     later_is free c.args.nodes.now c.loop-i.nodes c.next_bounds.new.nodes c.args.dividend.now c.loop-i.rest
-    c.brought_down-next.result c.loop-i.i (omega arith) c.requires.first c.loop-i.invariant.rest.are_bits
-    c.loop-i.invariant.extends c.next_bounds.ensures.extends
+    c.brought_down-next.result c.loop-i.i (omega arith) c.requires.words.first
+    c.loop-i.invariant.rest.are_bits c.loop-i.invariant.grows.extends c.next_bounds.ensures.grows.extends
     (c.brought_down-next.ensures.number c.next_bounds.new.nodes free)
     (number_of free c.args.nodes.now c.args.divisor.now) c.told-dividend
     (c.loop-i.invariant.rest.holds free) in
     record {
-      extends = Extends-through c.args.nodes.now c.next_bounds.new.nodes c.bounded_step.new.nodes extended
-          c.bounded_step.ensures.extends;
+      grows = record {
+        extends = Extends-through c.args.nodes.now c.next_bounds.new.nodes c.bounded_step.new.nodes extended
+            c.bounded_step.ensures.grows.extends;
+        count = omega arith;
+      };
       quotient = record {
         long = c.brought_down-quotient.ensures.long;
         are_bits = c.brought_down-quotient.ensures.bits c.bounded_step.new.nodes
@@ -170,21 +170,20 @@ loop-i-preserved c =
       };
       bounds_long = c.in_ok-bounds.ensures.long;
       bounds_bits = are_bits-extends c.next_bounds.new.nodes c.bounded_step.new.nodes c.in_ok-bounds.bounds
-          c.bounded_step.ensures.extends c.in_ok-bounds.ensures.bits;
+          c.bounded_step.ensures.grows.extends c.in_ok-bounds.ensures.bits;
       bounded = λ free.
           let n = number_of free c.next_bounds.new.nodes c.brought_down-next.result in
           let d = number_of free c.next_bounds.new.nodes c.args.divisor.now in
           bounded_later free c.next_bounds.new.nodes c.bounded_step.new.nodes c.in_ok-bounds.bounds
-          (number_of free c.bounded_step.new.nodes c.in_ok-fits.left) n c.bounded_step.ensures.extends
+          (number_of free c.bounded_step.new.nodes c.in_ok-fits.left) n c.bounded_step.ensures.grows.extends
           c.in_ok-bounds.ensures.bits
           (subst (λ m. m ≤ n) (sym (c.in_ok-fits.ensures.left.holds free)) (left_below (nat_le d n) n d))
           (later_bounded free c.args.nodes.now c.loop-i.nodes c.next_bounds.new.nodes
           c.args.dividend.now c.loop-i.rest c.brought_down-next.result c.loop-i.i (omega arith)
-          c.requires.first c.loop-i.invariant.rest.are_bits c.loop-i.invariant.extends
-          c.next_bounds.ensures.extends
+          c.requires.words.first c.loop-i.invariant.rest.are_bits c.loop-i.invariant.grows.extends
+          c.next_bounds.ensures.grows.extends
           (c.brought_down-next.ensures.number c.next_bounds.new.nodes free)
           c.in_ok-bounds.bounds
           (c.in_ok-bounds.ensures.more free (number_of free c.loop-i.nodes c.loop-i.rest)
           (c.loop-i.invariant.bounded free)));
-      gates = omega arith;
     }

@@ -1,13 +1,14 @@
-use Rattle.std.proofs.Common.{◌≡◌, ℕ, ◌≢◌, ◌<◌, ◌+◌, ◌*◌, ◌^◌, ◌&&◌, ◌||◌, not, Bool, false, length, refl, sym, ap, subst, ◌∙◌, arith}
+use Rattle.std.proofs.Common.{◌≡◌, ℕ, ◌≢◌, ◌<◌, ◌+◌, ◌*◌, ◌^◌, ◌&&◌, ◌||◌, not, Bool, false, length, refl, sym, ap, subst, ◌∙◌, arith, rules}
 use Rattle.std.proofs.lemmas.List.{get_or-set_other}
 use Rattle.ba_nodes.specs.Gates.{constant_bit, truth, Extends}
-use Rattle.ba_nodes.proofs.Truths.{Extends-through, Extends_refl, truth-constant}
+use Rattle.ba_nodes.proofs.Truths.{Grows-through, Extends-through, Extends_refl, truth-constant}
 use Rattle.ba_words.specs.Words.{digit, number_of, low_number, bit_at}
 use Rattle.ba_words.proofs.Carries.{are_bits-replicate}
 use Rattle.ba_words.proofs.Circuits.{LowIs-more, HasValue-same}
 use Rattle.ba_words.proofs.Places.{low_number-more}
 use Rattle.ba_words.proofs.Shapes.{filled-number, moved_up-number}
 use Rattle.ba_muldiv.proofs.Rows.{chosen_of, chosen_more, chosen_zero, multiple_low, low_number-mod, zeros-places}
+use Rattle.ba_words.proofs.Outcomes.{makes_word}
 use Rattle.ba_muldiv.proofs.product.multiple.Goals as goal
 
 pub loop-place-init : goal.loop-place-init
@@ -15,9 +16,18 @@ loop-place-init c =
     let old = c.args.nodes.now in
     let start = c.and-3.new.self in
     record {
-      extends = Extends-through old c.and-2.new.self start (Extends-through old c.and.new.self
-          c.and-2.new.self
-          c.and.ensures.extends c.and-2.ensures.extends) c.and-3.ensures.extends;
+      grows = record {
+        extends = Extends-through old c.and-2.new.self start
+            (Extends-through old c.and.new.self c.and-2.new.self
+            c.and.ensures.makes.grows.extends c.and-2.ensures.makes.grows.extends)
+            c.and-3.ensures.makes.grows.extends;
+        count = omega (
+          arith,
+          c.and.ensures.makes.grows.count,
+          c.and-2.ensures.makes.grows.count,
+          c.and-3.ensures.makes.grows.count,
+        );
+      };
       bits = Extends_refl start;
       number = record {
         long = refl;
@@ -26,7 +36,6 @@ loop-place-init c =
         holds = λ free. chosen_zero (truth free old c.args.high) (truth free old c.args.low);
       };
       zeros = λ k from. zeros-places 32 k c.constant-word.result c.constant-word.ensures.bit;
-      count = omega (arith, c.and.ensures.count, c.and-2.ensures.count, c.and-3.ensures.count);
     }
 
 pub loop-place-preserved : goal.loop-place-preserved
@@ -42,45 +51,45 @@ loop-place-preserved c =
     let a = c.args.a.now in
     let twice = c.moved_up-twice.result in
     let thrice = c.args.thrice.now in
-    let e1 : Extends old n1 = c.and.ensures.extends in
-    let e2 : Extends old n2 = Extends-through old n1 n2 e1 c.and-2.ensures.extends in
-    let f2 : Extends n2 now = Extends-through n2 start now c.and-3.ensures.extends l.bits in
-    let f1 : Extends n1 now = Extends-through n1 n2 now c.and-2.ensures.extends f2 in
+    let e1 : Extends old n1 = c.and.ensures.makes.grows.extends in
+    let e2 = Extends-through old n1 n2 e1 c.and-2.ensures.makes.grows.extends in
+    let f2 = Extends-through n2 start now c.and-3.ensures.makes.grows.extends l.bits in
+    let f1 = Extends-through n1 n2 now c.and-2.ensures.makes.grows.extends f2 in
     let small : p < 32 = omega (arith, c.requires.few) in
     let in_a : p < length a = omega (arith, c.told-a) in
     let in_twice : p < length twice = omega (arith, c.moved_up-twice.ensures.long) in
     let in_thrice : p < length thrice = omega (arith, c.told-thrice) in
     let one : (free : ℕ → Bool) → truth free now c.in_ok-one.one
     ≡ (truth free old c.args.low && not (truth free old c.args.high)) =
-    λ free. f1.keeps free c.in_ok-one.one c.in_ok-one.ensures.value.is_bit ∙ c.in_ok-one.ensures.value.holds
-    free
+    λ free. f1.keeps free c.in_ok-one.one c.in_ok-one.ensures.makes.value.is_bit
+    ∙ c.in_ok-one.ensures.makes.value.holds free
     ∙ ap (λ t. truth free old c.args.low && t) (c.not.ensures.value old free) in
     let two : (free : ℕ → Bool) → truth free now c.in_ok-two.two
     ≡ (truth free old c.args.high && not (truth free old c.args.low)) =
-    λ free. f2.keeps free c.in_ok-two.two c.in_ok-two.ensures.value.is_bit ∙ c.in_ok-two.ensures.value.holds
-    free
+    λ free. f2.keeps free c.in_ok-two.two c.in_ok-two.ensures.makes.value.is_bit
+    ∙ c.in_ok-two.ensures.makes.value.holds free
     ∙ (λ i. e1.keeps free c.args.high c.requires.fourth i && (c.not-2.ensures.value n1 free
     ∙ ap not (e1.keeps free c.args.low c.requires.third)) i) in
     let three : (free : ℕ → Bool) → truth free now c.in_ok-three.three
     ≡ (truth free old c.args.high && truth free old c.args.low) =
-    λ free. l.bits.keeps free c.in_ok-three.three c.in_ok-three.ensures.value.is_bit
-    ∙ c.in_ok-three.ensures.value.holds free
+    λ free. l.bits.keeps free c.in_ok-three.three c.in_ok-three.ensures.makes.value.is_bit
+    ∙ c.in_ok-three.ensures.makes.value.holds free
     ∙ (λ i. e2.keeps free c.args.high c.requires.fourth i && e2.keeps free c.args.low c.requires.third i) in
-    let twice_bits = c.moved_up-twice.ensures.bits old c.requires.first in
+    let twice_bits = c.moved_up-twice.ensures.bits old c.requires.words.first in
     record {
-      extends = Extends-through old now next l.extends c.some_pair.ensures.extends;
-      bits = Extends-through start now next l.bits c.some_pair.ensures.extends;
+      grows = Grows-through old now next l.grows c.some_pair.ensures.grows (omega arith);
+      bits = Extends-through start now next l.bits c.some_pair.ensures.grows.extends;
       number = LowIs-more now next c.loop-place.word p c.in_ok-word.field-0 _ _
           (λ free. (((truth free old c.args.low && not (truth free old c.args.high)) && truth free old
           (bit_at a p))
           || ((truth free old c.args.high && not (truth free old c.args.low)) && truth free old (bit_at
           twice p)))
           || ((truth free old c.args.high && truth free old c.args.low) && truth free old (bit_at thrice p)))
-          small c.some_pair.ensures.extends l.number
+          small c.some_pair.ensures.grows.extends l.number
           (HasValue-same next c.in_ok-word.field-0 _ _ c.in_ok-word.ensures.value
-          (λ free i. ((one free i && l.extends.keeps free (bit_at a p) (c.requires.first p) i)
-          || (two free i && l.extends.keeps free (bit_at twice p) (twice_bits p) i))
-          || (three free i && l.extends.keeps free (bit_at thrice p) (c.requires.second p) i)))
+          (λ free i. ((one free i && l.grows.extends.keeps free (bit_at a p) (c.requires.words.first p) i)
+          || (two free i && l.grows.extends.keeps free (bit_at twice p) (twice_bits p) i))
+          || (three free i && l.grows.extends.keeps free (bit_at thrice p) (c.requires.words.second p) i)))
           (λ free.
           chosen_more (truth free old c.args.high) (truth free old c.args.low) (2 ^ p) (low_number free old
           a p)
@@ -93,12 +102,11 @@ loop-place-preserved c =
           let apart : k ≢ p = λ same. absurd (omega arith) in
           get_or-set_other c.loop-place.word p k c.in_ok-word.field-0 (constant_bit false) apart
           ∙ l.zeros k (omega arith);
-      count = omega (arith, c.some_pair.ensures.count, l.count);
     }
 
-pub returns-clause-number : goal.returns-clause-number
-returns-clause-number c =
-    let old = c.args.nodes.now in
+pub returns : goal.returns
+returns c = makes_word (search rules)
+    (let old = c.args.nodes.now in
     let now = c.loop-place.nodes in
     let l = c.loop-place.invariant in
     let w = c.args.width in
@@ -131,4 +139,4 @@ returns-clause-number c =
           (moved_up-number free old twice a 1 (omega arith) c.moved_up-twice.ensures.long c.told-a
           c.moved_up-twice.ensures.places)
           (c.requires.thrice free);
-    }
+    })

@@ -1,26 +1,26 @@
-use Rattle.std.proofs.Common.{◌*◌, ◌+◌, ◌%◌, ◌^◌, sym, ap, ◌∙◌, if◌then◌else◌}
+use Rattle.std.proofs.Common.{◌*◌, ◌+◌, ◌%◌, ◌^◌, sym, ap, ◌∙◌, if◌then◌else◌, rules}
 use Rattle.ba_nodes.specs.Gates.{bool_xor}
 use Rattle.ba_words.specs.Words.{digit, number_of}
 use Rattle.ba_words.proofs.Circuits.{number_small}
-use Rattle.ba_words.proofs.Outcomes.{on_ok}
+use Rattle.ba_words.proofs.Outcomes.{on_ok, makes_word}
 use Rattle.ba_muldiv.specs.Division.{sum_or_difference}
 use Rattle.ba_muldiv.proofs.Rows.{other_false, other_true, row_none, row_taken, row_added}
 use Rattle.ba_muldiv.proofs.product.row.Goals as goal
 
-pub returns-then-plus-minus-clause-number : goal.returns-then-plus-minus-clause-number
-returns-then-plus-minus-clause-number c = record {
-  long = c.told-sum;
-  are_bits = c.requires.first;
-  holds = λ free.
-      row_none c.args.plus c.args.minus (number_of free c.args.nodes.now c.args.sum.now)
-      ((number_of free c.args.nodes.now c.args.a.now * 2 ^ c.args.place) % 2 ^ 32) c.if-plus-minus.true
-      (number_small free c.args.nodes.now c.args.sum.now c.told-sum);
-}
+pub returns-then-plus-minus : goal.returns-then-plus-minus
+returns-then-plus-minus c = makes_word (search rules)
+    (record {
+      long = c.told-sum;
+      are_bits = c.requires.words.first;
+      holds = λ free.
+          row_none c.args.plus c.args.minus (number_of free c.args.nodes.now c.args.sum.now)
+          ((number_of free c.args.nodes.now c.args.a.now * 2 ^ c.args.place) % 2 ^ 32) c.if-plus-minus.true
+          (number_small free c.args.nodes.now c.args.sum.now c.told-sum);
+    })
 
-pub returns-then-minus-clause-number : goal.returns-then-minus-clause-number
-returns-then-minus-clause-number c =
-    on_ok c.add_moved_up.result _ _
-    (λ word has. record {
+pub returns-then-minus : goal.returns-then-minus
+returns-then-minus c = makes_word (search rules)
+    (on_ok c.add_moved_up.result _ _ (λ word has. record {
       long = has.long;
       are_bits = has.are_bits;
       holds = λ free.
@@ -37,12 +37,11 @@ returns-then-minus-clause-number c =
           ∙ sym (ap (λ m. sum_or_difference m s
           (if bool_xor m c.args.plus then (a * 2 ^ c.args.place) % 2 ^ 32 else 0)) c.if-minus.true);
     })
-    c.add_moved_up.ensures.number
+    c.add_moved_up.ensures.number)
 
-pub returns-else-minus-clause-number : goal.returns-else-minus-clause-number
-returns-else-minus-clause-number c =
-    on_ok c.add_moved_up-else-minus.result _ _
-    (λ word has. record {
+pub returns-else-minus : goal.returns-else-minus
+returns-else-minus c = makes_word (search rules)
+    (on_ok c.add_moved_up-else-minus.result _ _ (λ word has. record {
       long = has.long;
       are_bits = has.are_bits;
       holds = λ free.
@@ -57,4 +56,4 @@ returns-else-minus-clause-number c =
           ∙ sym (ap (λ m. sum_or_difference m s
           (if bool_xor m c.args.plus then (a * 2 ^ c.args.place) % 2 ^ 32 else 0)) c.if-minus.false);
     })
-    c.add_moved_up-else-minus.ensures.number
+    c.add_moved_up-else-minus.ensures.number)

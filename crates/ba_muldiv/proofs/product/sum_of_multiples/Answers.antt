@@ -1,12 +1,13 @@
-use Rattle.std.proofs.Common.{◌≡◌, ◌<◌, ◌+◌, ◌-◌, ◌*◌, ◌%◌, ◌^◌, length, refl, sym, ap, ◌∙◌, arith}
-use Rattle.ba_nodes.specs.Gates.{truth, Extends}
-use Rattle.ba_nodes.proofs.Truths.{Extends-through}
+use Rattle.std.proofs.Common.{◌≡◌, ◌<◌, ◌+◌, ◌-◌, ◌*◌, ◌%◌, ◌^◌, length, refl, sym, ap, ◌∙◌, arith, rules}
+use Rattle.ba_nodes.specs.Gates.{truth}
+use Rattle.ba_nodes.proofs.Truths.{Grows-more, Extends-through}
 use Rattle.ba_words.specs.Words.{digit, number_of, low_number, bit_at}
 use Rattle.ba_words.proofs.Carries.{are_bits-replicate, number-zeros}
 use Rattle.ba_words.proofs.Circuits.{number_small, low_number-two_more}
 use Rattle.ba_words.proofs.Places.{are_bits-extends, number_of-extends, low_number-all}
 use Rattle.ba_muldiv.specs.Division.{multiple_of}
 use Rattle.ba_muldiv.proofs.Rows.{zero_first, triple, multiples_more, multiples_last}
+use Rattle.ba_words.proofs.Outcomes.{makes_word}
 use Rattle.ba_muldiv.proofs.product.sum_of_multiples.Goals as goal
 
 pub loop-i-init : goal.loop-i-init
@@ -22,21 +23,20 @@ loop-i-init c =
           (digit (truth free old c.constant-no.result)) (ap digit ((c.constant-no.ensures.value old).holds
           free))
           (c.in_ok-thrice.ensures.number.holds free);
-      extends = c.add_moved_up.ensures.extends;
+      grows = Grows-more old start c.add_moved_up.ensures.grows (omega arith);
       left = λ free.
           (λ i. (number-zeros free start 32 c.constant-no.result ((c.constant-no.ensures.value start).holds
           free) i
           + number_of free old c.args.a.now
           * low_number-all free old c.args.factor.now 32 (omega (arith, c.told-factor)) i) % 2 ^ 32)
           ∙ zero_first (number_of free old c.args.a.now * number_of free old c.args.factor.now);
-      gates = omega (arith, c.add_moved_up.ensures.count);
     }
 
 pub multiple-requires-clause-thrice : goal.multiple-requires-clause-thrice
 multiple-requires-clause-thrice c free =
     c.loop-i.invariant.triple free
     ∙ ap (λ n. (3 * n) % 2 ^ 32) (sym (number_of-extends free c.args.nodes.now c.loop-i.nodes c.args.a.now
-    c.loop-i.invariant.extends c.requires.first))
+    c.loop-i.invariant.grows.extends c.requires.first))
 
 pub loop-i-preserved : goal.loop-i-preserved
 loop-i-preserved c =
@@ -53,8 +53,8 @@ loop-i-preserved c =
     let before : 32 - 2 * c.loop-i.i ≡ place + 1 + 1 = omega arith in
     let after : 32 - 2 * (c.loop-i.i + 1) ≡ place = omega arith in
     let within : place + 1 < length factor = omega (arith, c.told-factor) in
-    let later : Extends now next = Extends-through now middle next c.multiple.ensures.extends
-    c.add_moved_up-in-loop-i.ensures.extends in
+    let later = Extends-through now middle next c.multiple.ensures.grows.extends
+    c.add_moved_up-in-loop-i.ensures.grows.extends in
     let square : (c.loop-i.i + 1) * (c.loop-i.i + 1) ≡ c.loop-i.i * c.loop-i.i + 2 * c.loop-i.i + 1 = grind
     arith in
     record {
@@ -62,7 +62,16 @@ loop-i-preserved c =
       bits = c.in_ok-sum.ensures.number.are_bits;
       thrice = are_bits-extends now next c.in_ok-thrice.thrice later l.thrice;
       triple = λ free. number_of-extends free now next c.in_ok-thrice.thrice later l.thrice ∙ l.triple free;
-      extends = Extends-through old now next l.extends later;
+      grows = record {
+        extends = Extends-through old now next l.grows.extends later;
+        count = omega (
+          arith,
+          square,
+          l.grows.count,
+          c.multiple.ensures.grows.count,
+          c.add_moved_up-in-loop-i.ensures.grows.count,
+        );
+      };
       left = λ free.
           let multiple : number_of free middle c.in_ok-more.more
           ≡ multiple_of (truth free now (bit_at factor (place + 1))) (truth free now (bit_at factor place))
@@ -70,12 +79,12 @@ loop-i-preserved c =
           c.in_ok-more.ensures.number.holds free
           ∙ ap (λ n. multiple_of (truth free now (bit_at factor (place + 1)))
           (truth free now (bit_at factor place)) n % 2 ^ (32 - place))
-          (number_of-extends free old now a l.extends c.requires.first) in
+          (number_of-extends free old now a l.grows.extends c.requires.first) in
           let sum : number_of free next c.in_ok-sum.sum
           ≡ (number_of free now c.loop-i.sum + (number_of free middle c.in_ok-more.more + 0) * 2 ^ place) %
           2 ^ 32 =
           c.in_ok-sum.ensures.number.holds free
-          ∙ (λ i. (number_of-extends free now middle c.loop-i.sum c.multiple.ensures.extends l.bits i
+          ∙ (λ i. (number_of-extends free now middle c.loop-i.sum c.multiple.ensures.grows.extends l.bits i
           + (number_of free middle c.in_ok-more.more
           + digit ((c.constant-no.ensures.value middle).holds free i)) * 2 ^ place) % 2 ^ 32) in
           (λ i. (number_of free next c.in_ok-sum.sum
@@ -85,20 +94,13 @@ loop-i-preserved c =
           (number_of free next c.in_ok-sum.sum) (low_number free old factor (32 - 2 * c.loop-i.i))
           (low_number free old factor place) (32 - place) place split multiple sum
           (ap (low_number free old factor) before
-          ∙ low_number-two_more free old now factor place within c.requires.second l.extends)
+          ∙ low_number-two_more free old now factor place within c.requires.second l.grows.extends)
           ((number_of free old a * number_of free old factor) % 2 ^ 32) (l.left free);
-      gates = omega (
-        arith,
-        square,
-        l.gates,
-        c.multiple.ensures.count,
-        c.add_moved_up-in-loop-i.ensures.count,
-      );
     }
 
-pub returns-clause-number : goal.returns-clause-number
-returns-clause-number c =
-    let none : 32 - 2 * c.loop-i.i ≡ 0 = omega arith in
+pub returns : goal.returns
+returns c = makes_word (search rules)
+    (let none : 32 - 2 * c.loop-i.i ≡ 0 = omega arith in
     record {
       long = c.loop-i.invariant.long;
       are_bits = c.loop-i.invariant.bits;
@@ -111,4 +113,4 @@ returns-clause-number c =
           (sym (λ j. (number_of free c.loop-i.nodes c.loop-i.sum + number_of free c.args.nodes.now
           c.args.a.now * low_number free c.args.nodes.now c.args.factor.now (none j)) % 2 ^ 32)
           ∙ c.loop-i.invariant.left free);
-    }
+    })

@@ -38,7 +38,7 @@ loop-i-preserved c =
       long = c.in_ok-sum.ensures.number.long;
       bits = c.in_ok-sum.ensures.number.are_bits;
       extends = Extends-through c.args.nodes.now c.loop-i.nodes c.row.new.nodes l.extends
-          c.row.ensures.extends;
+          c.row.ensures.grows.extends;
       left = λ free factor is.
           let a = number_of free c.args.nodes.now c.args.a.now in
           (λ j. (number_of free c.row.new.nodes c.in_ok-sum.sum + a * (c.args.plus % 2 ^ next j)) % 2 ^ 32)
@@ -57,7 +57,7 @@ loop-i-preserved c =
           c.has_one-in-loop-i.ensures)
           (l.left free factor is)
           ∙ sym (λ j. (a * factor + a * (c.args.minus % 2 ^ next j)) % 2 ^ 32);
-      gates = omega (arith, square, l.gates, c.row.ensures.count);
+      gates = omega (arith, square, l.gates, c.row.ensures.grows.count);
     }
 
 pub returns-clause-number : goal.returns-clause-number

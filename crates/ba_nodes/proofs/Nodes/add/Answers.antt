@@ -1,7 +1,7 @@
 use Rattle.std.proofs.Common.{length, arith}
 use Rattle.std.proofs.lemmas.Option.{slice_get_within}
 use Rattle.ba_nodes.specs.Gates.{MayStandAt}
-use Rattle.ba_nodes.proofs.Adding.{added_ordered, added_extends, added_value, added_gates}
+use Rattle.ba_nodes.proofs.Adding.{added_ordered, added_grows, added_value, added_gates}
 use Rattle.ba_nodes.proofs.Truths.{gates-few}
 use Rattle.ba_nodes.proofs.Nodes.add.Goals as goal
 
@@ -14,15 +14,14 @@ invariant_of-self-2 c =
           (rw (← c.len-before.ensures.len, ← c.len.ensures.len) c.gates_more.ensures),
     )
 
-pub returns-clause-value : goal.returns-clause-value
-returns-clause-value c =
+pub returns-clause-makes : goal.returns-clause-makes
+returns-clause-makes c =
     let may : MayStandAt (length c.self.inside.nodes.keys) c.args.node = rw c.self.view_is c.requires in
-    rw (c.bit_of.ensures, ← c.self.view_is)
-    (added_value c.self.inside.nodes.keys c.put.new.nodes.keys c.args.node c.in_ok-number.number c.self.invariant.0 may c.in_ok-number.ensures.ok.1 c.in_ok-number.ensures.ok.0)
-
-pub returns-clause-extends : goal.returns-clause-extends
-returns-clause-extends c =
-    rw (← c.self.view_is) (added_extends c.self.inside.nodes.keys c.put.new.nodes.keys c.args.node c.in_ok-number.ensures.ok.1)
+    record {
+      value = rw (c.bit_of.ensures, ← c.self.view_is)
+          (added_value c.self.inside.nodes.keys c.put.new.nodes.keys c.args.node c.in_ok-number.number c.self.invariant.0 may c.in_ok-number.ensures.ok.1 c.in_ok-number.ensures.ok.0);
+      grows = rw (← c.self.view_is) (added_grows c.self.inside.nodes.keys c.put.new.nodes.keys c.args.node c.in_ok-number.ensures.ok.1);
+    }
 
 pub returns-clause-ordered : goal.returns-clause-ordered
 returns-clause-ordered c =

@@ -1,11 +1,15 @@
 use Rattle.std.proofs.Common.{Ok, refl, sym, ap, ◌∙◌, is_some}
+use Rattle.ba_nodes.proofs.Truths.{Grows_refl}
 use Rattle.ba_nodes.proofs.Folding.{folded_value}
 use Rattle.ba_nodes.proofs.Adding.{made_folded, made_before, made_settled, all_made}
 use Rattle.ba_nodes.proofs.Nodes.and.Goals as goal
 
-pub returns-in-Some-clause-value : goal.returns-in-Some-clause-value
-returns-in-Some-clause-value c =
-    folded_value c.args.self.now c.args.a c.args.b c.requires.first c.requires.second c.in-Some.bit (sym c.folded.ensures ∙ c.in-Some.is)
+pub returns-in-Some-clause-makes : goal.returns-in-Some-clause-makes
+returns-in-Some-clause-makes c =
+    record {
+      value = folded_value c.args.self.now c.args.a c.args.b c.requires.first c.requires.second c.in-Some.bit (sym c.folded.ensures ∙ c.in-Some.is);
+      grows = Grows_refl c.args.self.now 1;
+    }
 
 pub returns-in-Some-clause-again : goal.returns-in-Some-clause-again
 returns-in-Some-clause-again c bit made =

@@ -1,5 +1,6 @@
-use Rattle.std.proofs.Common.{arith}
+use Rattle.std.proofs.Common.{Ok, Err, arith}
 use Rattle.ba_check.specs.Readers.{seen}
+use Rattle.ba_check.proofs.CodeLaws.{tells-first}
 use Rattle.ba_world.specs.Read.{read_error}
 use Rattle.ba_world.proofs.WholeReads.{only_reads_on}
 use Rattle.ba_tool.specs.declared.certificates.Unfed.TheVariants.{Refused, Unread}
@@ -68,7 +69,8 @@ loop-count-preserved g c = record {
       (seen c.feed.new.self) c.next_piece.new.into c.in_ok-count.count c.loop-count.given
       (g.W.World.outside c.args.world.now) (g.W.World.outside c.loop-count.world)
       (g.W.World.outside c.next_piece.new.self) c.loop-count.invariant.feeding c.in_ok-count.ensures.given
-      c.next_piece.ensures.still c.feed.ensures.reads c.in_ok-feed.ensures.refuses;
+      c.next_piece.ensures.still c.feed.ensures.reads (λ h p text has. tells-first h p _ _ (Ok tt)
+      (c.feed.ensures.reads h p text has) c.in_ok-feed.ensures.answer);
   within = omega arith;
   stays = only_reads_on _ _ _ c.loop-count.invariant.stays c.next_piece.ensures.stays;
 }
@@ -81,4 +83,5 @@ returns-in_err-feed-clause-unfed g c = λ j named has.
     c.next_piece.new.into c.in_ok-count.count c.loop-count.given (g.W.World.outside c.args.world.now)
     (g.W.World.outside c.loop-count.world) (g.W.World.outside c.next_piece.new.self)
     c.in_err-feed.field-0.0 named has c.loop-count.invariant.feeding (omega arith) (omega arith)
-    c.in_ok-count.ensures.given c.next_piece.ensures.still c.in_err-feed.ensures.refuses)
+    c.in_ok-count.ensures.given c.next_piece.ensures.still (λ h p text has. tells-first h p _ _
+    (Err c.in_err-feed.field-0.0) (c.in_err-feed.ensures.reads h p text has) c.in_err-feed.ensures.answer))

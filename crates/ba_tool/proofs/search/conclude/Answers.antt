@@ -1,19 +1,30 @@
 use Rattle.std.proofs.Common.{refl, sym, subst}
-use Rattle.ba_tool.specs.Calls.{SearchLeaves}
+use Rattle.std.proofs.lemmas.Result.{IfOk-weaker}
+use Rattle.ba_tool.specs.Calls.{CaseEnds}
 use Rattle.ba_tool.proofs.search.conclude.Goals as goal
 
-pub returns-in-Some-clause-leaves : goal.returns-in-Some-clause-leaves
-returns-in-Some-clause-leaves g c =
-    subst (λ cert. SearchLeaves c.args.job.now c.args.texts.now c.args.case.now.program cert
+pub returns-in-Some : goal.returns-in-Some
+returns-in-Some g c =
+    subst (λ cert. CaseEnds c.args.job.now c.args.texts.now c.args.case.now.program cert
     (g.W.World.outside c.args.world.now) (g.W.World.outside c.certify.new.world)
-    (g.D.StepSink.told c.args.steps.now)
-    (g.D.StepSink.told c.certify.new.steps)) (sym c.in-Some.is)
-    (c.certify.ensures.begins, c.certify.ensures.leaves)
+    (g.D.StepSink.told c.args.steps.now) (g.D.StepSink.told c.certify.new.steps) c.certify.result)
+    (sym c.in-Some.is) c.certify.ensures
 
-pub returns-in-None-clause-leaves : goal.returns-in-None-clause-leaves
-returns-in-None-clause-leaves g c =
-    subst (λ cert. SearchLeaves c.args.job.now c.args.texts.now c.args.case.now.program cert
+pub returns-in-None : goal.returns-in-None
+returns-in-None g c =
+    subst (λ cert. CaseEnds c.args.job.now c.args.texts.now c.args.case.now.program cert
     (g.W.World.outside c.args.world.now) (g.W.World.outside c.args.world.now)
-    (g.D.StepSink.told c.args.steps.now)
-    (g.D.StepSink.told c.locate.new.steps)) (sym c.in-None.is)
-    (refl, c.locate.ensures.leaves)
+    (g.D.StepSink.told c.args.steps.now) (g.D.StepSink.told c.locate.new.steps) c.locate.result)
+    (sym c.in-None.is)
+    (record {
+      answer = IfOk-weaker c.locate.result _ _
+          (λ a answer. record {
+            derivation = answer.derivation;
+            is = answer.is;
+            hands = answer.hands;
+            certifies = refl;
+          }) c.locate.ensures.answer;
+      left = (refl, c.locate.ensures.left);
+      cause = c.locate.ensures.cause;
+      outlasts = c.locate.ensures.outlasts;
+    })

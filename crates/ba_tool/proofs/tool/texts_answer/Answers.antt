@@ -1,4 +1,5 @@
-use Rattle.std.proofs.Common.{◌≤◌, ◌+◌, subst, sym, arith}
+use Rattle.std.proofs.Common.{rules, ◌≤◌, ◌+◌, subst, sym, arith}
+use Rattle.ba_steps.proofs.SinkLaws.{Outlasts-refl}
 use Rattle.std.proofs.lemmas.Result.{IfOk-weaker}
 use Rattle.ba_tool.specs.Calls.{head_by, in_check, in_search, most_of}
 use Rattle.ba_tool.specs.Cases.{IsJudged}
@@ -8,17 +9,6 @@ use Rattle.ba_tool.proofs.Ending.{only_writes}
 use Rattle.ba_tool.proofs.Leaving.{checking_faults, search_begins, searching_faults, stops_none}
 use Rattle.ba_tool.proofs.tool.texts_answer.Goals as goal
 
-pub returns-in-Answered-clause-answer : goal.returns-in-Answered-clause-answer
-returns-in-Answered-clause-answer g c = proceeds_judged c.args.job.now c.args.texts.now _ _
-    c.in-Answered.answer
-    (subst (IsJudged c.args.job.now c.args.texts.now) c.in-Answered.is c.in_ok-answer.ensures)
-
-pub returns-in-ToSearch-clause-answer : goal.returns-in-ToSearch-clause-answer
-returns-in-ToSearch-clause-answer g c =
-    let judged = subst (IsJudged c.args.job.now c.args.texts.now) c.in-ToSearch.is c.in_ok-answer.ensures in
-    IfOk-weaker c.conclude.result _ _ (λ a holds. proceeds_searched c.args.job.now c.args.texts.now _ _ _ _ a
-    judged.1.0 holds) c.conclude.ensures.answer
-
 pub returns-in-ToSearch-clause-bounded : goal.returns-in-ToSearch-clause-bounded
 returns-in-ToSearch-clause-bounded g c =
     let old = g.W.World.outside c.args.world.now in
@@ -27,7 +17,7 @@ returns-in-ToSearch-clause-bounded g c =
     (search_begins c.args.job.now c.args.texts.now c.in-ToSearch.case.program c.args.job.now.cert old new
     (g.D.StepSink.told c.args.steps.now)
     (g.D.StepSink.told c.conclude.new.steps)
-    c.conclude.ensures.leaves) in
+    c.conclude.ensures.left) in
     let same = wrote.given in omega (arith, same)
 
 pub conclude-requires-clause-search : goal.conclude-requires-clause-search
@@ -52,49 +42,53 @@ check-requires g c =
       };
     }
 
-pub returns-in-ToCheck-clause-answer : goal.returns-in-ToCheck-clause-answer
-returns-in-ToCheck-clause-answer g c =
-    let judged = subst (IsJudged c.args.job.now c.args.texts.now) c.in-ToCheck.is c.in_ok-answer.ensures in
-    IfOk-weaker c.check.result _ _ (λ a holds. proceeds_checked c.args.job.now c.args.texts.now
-    c.in-ToCheck.case.program _ _ _ _ a judged.0.spells judged.1 c.check.ensures.stays holds)
-    (c.check.ensures.answer c.args.texts.now judged.0)
-
 pub returns-in-ToCheck-clause-bounded : goal.returns-in-ToCheck-clause-bounded
 returns-in-ToCheck-clause-bounded g c =
     let judged = subst (IsJudged c.args.job.now c.args.texts.now) c.in-ToCheck.is c.in_ok-answer.ensures in
     subst (λ (t : Task). (g.W.World.outside c.check.new.world).given
     ≤ (g.W.World.outside c.args.world.now).given + most_of t) (sym judged.1.0) c.check.ensures.bounded
 
-pub returns-in_err-answer-clause-stops : goal.returns-in_err-answer-clause-stops
-returns-in_err-answer-clause-stops g c = stops_none _ _ _ _
+pub returns-in_err-answer-clause-ends : goal.returns-in_err-answer-clause-ends
+returns-in_err-answer-clause-ends g c = record {
+  answer = search rules;
+  left = stops_none _ _ _ _;
+  cause = first_of (search rules, cc);
+  outlasts = Outlasts-refl (g.D.StepSink.told c.args.steps.now);
+}
 
-pub returns-in-Answered-clause-stops : goal.returns-in-Answered-clause-stops
-returns-in-Answered-clause-stops g c = stops_none _ _ _ _
+pub returns-in-Answered-clause-ends : goal.returns-in-Answered-clause-ends
+returns-in-Answered-clause-ends g c = record {
+  answer = proceeds_judged c.args.job.now c.args.texts.now _ _ c.in-Answered.answer
+      (subst (IsJudged c.args.job.now c.args.texts.now) c.in-Answered.is c.in_ok-answer.ensures);
+  left = stops_none _ _ _ _;
+  cause = λ failed. absurd (cc failed);
+  outlasts = Outlasts-refl (g.D.StepSink.told c.args.steps.now);
+}
 
-pub returns-in-ToSearch-clause-stops : goal.returns-in-ToSearch-clause-stops
-returns-in-ToSearch-clause-stops g c =
+pub returns-in-ToSearch-clause-ends : goal.returns-in-ToSearch-clause-ends
+returns-in-ToSearch-clause-ends g c =
     let judged = subst (IsJudged c.args.job.now c.args.texts.now) c.in-ToSearch.is c.in_ok-answer.ensures in
-    in_search c.in-ToSearch.case.program judged.0.spells judged.1 c.conclude.ensures.leaves
+    record {
+      answer = IfOk-weaker c.conclude.result _ _ (λ a holds. proceeds_searched c.args.job.now c.args.texts.now
+          _ _ _ _ a judged.1.0 holds) c.conclude.ensures.answer;
+      left = in_search c.in-ToSearch.case.program judged.0.spells judged.1 c.conclude.ensures.left;
+      cause = λ failed. searching_faults c.args.job.now (g.W.World.outside c.args.world.now)
+          (g.W.World.outside c.conclude.new.world) (g.D.StepSink.told c.args.steps.now)
+          (g.D.StepSink.told c.conclude.new.steps) judged.1.0 (c.conclude.ensures.cause failed);
+      outlasts = c.conclude.ensures.outlasts;
+    }
 
-pub returns-in-ToCheck-clause-stops : goal.returns-in-ToCheck-clause-stops
-returns-in-ToCheck-clause-stops g c =
+pub returns-in-ToCheck-clause-ends : goal.returns-in-ToCheck-clause-ends
+returns-in-ToCheck-clause-ends g c =
     let judged = subst (IsJudged c.args.job.now c.args.texts.now) c.in-ToCheck.is c.in_ok-answer.ensures in
-    in_check c.in-ToCheck.case.program judged.0.spells judged.1 c.check.ensures.stays
-    (c.check.ensures.leaves c.args.texts.now judged.0)
-
-pub returns-in-ToSearch-clause-cause : goal.returns-in-ToSearch-clause-cause
-returns-in-ToSearch-clause-cause g c = λ failed.
-    let judged = subst (IsJudged c.args.job.now c.args.texts.now) c.in-ToSearch.is c.in_ok-answer.ensures in
-    searching_faults c.args.job.now (g.W.World.outside c.args.world.now)
-    (g.W.World.outside c.conclude.new.world)
-    (g.D.StepSink.told c.args.steps.now)
-    (g.D.StepSink.told c.conclude.new.steps) judged.1.0
-    (c.conclude.ensures.cause failed)
-
-pub returns-in-ToCheck-clause-cause : goal.returns-in-ToCheck-clause-cause
-returns-in-ToCheck-clause-cause g c = λ failed.
-    let judged = subst (IsJudged c.args.job.now c.args.texts.now) c.in-ToCheck.is c.in_ok-answer.ensures in
-    checking_faults c.args.job.now (g.W.World.outside c.args.world.now) (g.W.World.outside c.check.new.world)
-    (g.D.StepSink.told c.args.steps.now)
-    (g.D.StepSink.told c.check.new.steps) judged.1.0
-    (c.check.ensures.cause failed)
+    record {
+      answer = IfOk-weaker c.check.result _ _ (λ a holds. proceeds_checked c.args.job.now c.args.texts.now
+          c.in-ToCheck.case.program _ _ _ _ a judged.0.spells judged.1 c.check.ensures.stays holds)
+          (c.check.ensures.answer c.args.texts.now judged.0);
+      left = in_check c.in-ToCheck.case.program judged.0.spells judged.1 c.check.ensures.stays
+          (c.check.ensures.leaves c.args.texts.now judged.0);
+      cause = λ failed. checking_faults c.args.job.now (g.W.World.outside c.args.world.now)
+          (g.W.World.outside c.check.new.world) (g.D.StepSink.told c.args.steps.now)
+          (g.D.StepSink.told c.check.new.steps) judged.1.0 (c.check.ensures.cause failed);
+      outlasts = c.check.ensures.outlasts;
+    }

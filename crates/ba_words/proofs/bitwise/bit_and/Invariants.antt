@@ -1,12 +1,11 @@
 use Rattle.std.proofs.Common.{◌+◌, ◌≤◌, bit_and}
-use Rattle.ba_nodes.specs.Gates.{gates_in, Extends}
+use Rattle.ba_nodes.specs.Gates.{Grows}
 use Rattle.ba_words.specs.Words.{low_number}
 use Rattle.ba_words.proofs.Circuits.{LowIs}
 use Rattle.ba_words.proofs.bitwise.bit_and.Given as goal
 
 abbrev pub invariant-loop-i : goal.invariant-loop-i
 invariant-loop-i l = record {
-  extends : Extends l.initial.nodes l.nodes;
+  grows : Grows l.initial.nodes l.nodes l.i;
   number : LowIs l.nodes l.word l.i (λ free. bit_and (low_number free l.initial.nodes l.a l.i) (low_number free l.initial.nodes l.b l.i));
-  count : gates_in l.nodes ≤ gates_in l.initial.nodes + l.i;
 }

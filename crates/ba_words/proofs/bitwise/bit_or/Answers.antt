@@ -1,22 +1,19 @@
-use Rattle.std.proofs.Common.{◌||◌, Some, bit_or, sym, ap, ◌∙◌, arith}
-use Rattle.ba_nodes.proofs.Truths.{Extends-through}
-use Rattle.ba_words.specs.Words.{number_of}
-use Rattle.ba_words.proofs.Circuits.{pairs-more, pairs-all, or_step, number_small}
-use Rattle.ba_words.proofs.Values.{read, or_value}
+use Rattle.std.proofs.Common.{◌||◌, bit_or, arith, rules}
+use Rattle.ba_nodes.proofs.Truths.{Grows-through}
+use Rattle.ba_numbers.specs.declared.numbers.BinOp.TheVariants.{Or}
+use Rattle.ba_words.proofs.Circuits.{pairs-more, pairs-all, or_step}
+use Rattle.ba_words.proofs.Outcomes.{makes_word, circuit}
+use Rattle.ba_words.proofs.Values.{or_value}
 use Rattle.ba_words.proofs.bitwise.bit_or.Goals as goal
 
 pub loop-i-preserved : goal.loop-i-preserved
 loop-i-preserved c = record {
-  extends = Extends-through c.args.nodes.now c.loop-i.nodes c.or.new.self c.loop-i.invariant.extends c.or.ensures.extends;
+  grows = Grows-through c.args.nodes.now c.loop-i.nodes c.or.new.self c.loop-i.invariant.grows c.or.ensures.makes.grows (omega arith);
   number = pairs-more (λ free x y. x || y) (λ free m n. bit_or m n) or_step c.args.nodes.now c.loop-i.nodes c.or.new.self c.args.a.now c.args.b.now c.loop-i.word c.loop-i.i c.in_ok-word.field-0
-      (omega arith) c.told-a c.told-b c.requires.first c.requires.second c.loop-i.invariant.extends c.or.ensures.extends c.loop-i.invariant.number c.in_ok-word.ensures.value;
-  count = omega arith;
+      (omega arith) c.told-a c.told-b c.requires.first c.requires.second c.loop-i.invariant.grows.extends c.or.ensures.makes.grows.extends c.loop-i.invariant.number c.in_ok-word.ensures.makes.value;
 }
 
-pub returns-clause-value : goal.returns-clause-value
-returns-clause-value c signed free =
-    let is = pairs-all (λ free x y. x || y) (λ free m n. bit_or m n) or_step c.args.nodes.now c.loop-i.nodes c.args.a.now c.args.b.now c.loop-i.word c.loop-i.i
-    c.loop-i-test.false c.told-a c.told-b c.loop-i.invariant.number in
-    or_value signed (number_of free c.args.nodes.now c.args.a.now) (number_of free c.args.nodes.now c.args.b.now)
-    (number_small free c.args.nodes.now c.args.a.now c.told-a) (number_small free c.args.nodes.now c.args.b.now c.told-b)
-    ∙ ap (λ n. Some (read signed n)) (sym (is.holds free))
+pub returns : goal.returns
+returns c = circuit Or c.args.nodes.now c.loop-i.nodes c.args.a.now c.args.b.now _ or_value c.told-a c.told-b (makes_word (search rules)
+    (pairs-all (λ free x y. x || y) (λ free m n. bit_or m n) or_step c.args.nodes.now c.loop-i.nodes c.args.a.now c.args.b.now c.loop-i.word c.loop-i.i
+    c.loop-i-test.false c.told-a c.told-b c.loop-i.invariant.number))

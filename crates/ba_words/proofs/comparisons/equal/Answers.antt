@@ -1,6 +1,6 @@
 use Rattle.std.proofs.Common.{◌==◌, ◌&&◌, not, arith}
 use Rattle.ba_nodes.specs.Gates.{bool_xor, truth}
-use Rattle.ba_nodes.proofs.Truths.{Extends-through}
+use Rattle.ba_nodes.proofs.Truths.{Grows-through}
 use Rattle.ba_words.specs.Words.{number_of}
 use Rattle.ba_words.proofs.Circuits.{compared-more, compared-all, equal_step, number_small}
 use Rattle.ba_words.proofs.Values.{equal_value}
@@ -8,10 +8,9 @@ use Rattle.ba_words.proofs.comparisons.equal.Goals as goal
 
 pub loop-i-preserved : goal.loop-i-preserved
 loop-i-preserved c = record {
-  extends = Extends-through c.args.nodes.now c.loop-i.nodes c.also_equal.new.nodes c.loop-i.invariant.extends c.also_equal.ensures.extends;
+  grows = Grows-through c.args.nodes.now c.loop-i.nodes c.also_equal.new.nodes c.loop-i.invariant.grows c.also_equal.ensures.grows (omega arith);
   value = compared-more (λ t x y. t && not (bool_xor x y)) (λ m n. m == n) equal_step c.args.nodes.now c.loop-i.nodes c.also_equal.new.nodes c.args.a.now c.args.b.now c.loop-i.i c.loop-i.same c.in_ok-same.same
-      (omega arith) c.told-a c.told-b c.requires.first c.requires.second c.loop-i.invariant.extends c.loop-i.invariant.value c.in_ok-same.ensures.value;
-  count = omega arith;
+      (omega arith) c.told-a c.told-b c.requires.first c.requires.second c.loop-i.invariant.grows.extends c.loop-i.invariant.value c.in_ok-same.ensures.value;
 }
 
 pub returns-clause-value : goal.returns-clause-value

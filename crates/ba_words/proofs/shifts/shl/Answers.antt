@@ -1,5 +1,5 @@
 use Rattle.std.proofs.Common.{◌≡◌, ℕ, ◌*◌, ◌%◌, ◌^◌, ◌<◌, Some, sym, ap, ◌∙◌, arith}
-use Rattle.ba_nodes.proofs.Truths.{Extends-through, Extends_refl}
+use Rattle.ba_nodes.proofs.Truths.{Grows-through, Grows_refl}
 use Rattle.ba_words.specs.Words.{number_of, low_number}
 use Rattle.ba_words.proofs.Circuits.{number_small}
 use Rattle.ba_words.proofs.Shapes.{moved_up-number}
@@ -12,22 +12,20 @@ own n small = omega arith
 
 pub loop-level-init : goal.loop-level-init
 loop-level-init c = record {
-  extends = Extends_refl c.args.nodes.now;
+  grows = Grows_refl c.args.nodes.now _;
   number = record { long = c.told-a; are_bits = c.requires.first; holds = λ free. let small = number_small free c.args.nodes.now c.args.a.now c.told-a in own (number_of free c.args.nodes.now c.args.a.now) small };
-  gates = omega arith;
 }
 
 pub loop-level-preserved : goal.loop-level-preserved
 loop-level-preserved c =
     let small : c.loop-level.level < 5 = omega arith in
     record {
-      extends = Extends-through c.args.nodes.now c.loop-level.nodes c.select.new.nodes c.loop-level.invariant.extends c.select.ensures.extends;
+      grows = Grows-through c.args.nodes.now c.loop-level.nodes c.select.new.nodes c.loop-level.invariant.grows c.select.ensures.grows (omega arith);
       number = up_more c.args.nodes.now c.loop-level.nodes c.select.new.nodes c.args.a.now c.args.count.now c.loop-level.word c.moved_up-shifted.result c.in_ok-word.word c.loop-level.level
-          (omega arith) c.told-count c.requires.second c.loop-level.invariant.extends c.loop-level.invariant.number
+          (omega arith) c.told-count c.requires.second c.loop-level.invariant.grows.extends c.loop-level.invariant.number
           (λ free. moved_up-number free c.loop-level.nodes c.moved_up-shifted.result c.loop-level.word ((1 * 2 ^ c.loop-level.level) % 2 ^ 64) (distance_small c.loop-level.level small) c.moved_up-shifted.ensures.long c.loop-level.invariant.number.long c.moved_up-shifted.ensures.places
           ∙ ap (λ by. (number_of free c.loop-level.nodes c.loop-level.word * 2 ^ by) % 2 ^ 32) (distance c.loop-level.level small))
           c.in_ok-word.ensures.number;
-      gates = omega arith;
     }
 
 pub returns-clause-value : goal.returns-clause-value

@@ -1,11 +1,10 @@
 use Rattle.std.proofs.Common.{◌+◌, ◌*◌, ◌≤◌}
-use Rattle.ba_nodes.specs.Gates.{truth, gates_in, Extends}
+use Rattle.ba_nodes.specs.Gates.{truth, Grows}
 use Rattle.ba_words.specs.Words.{number_of, low_number, HasNumber, shifted_down}
 use Rattle.ba_words.proofs.shifts.shr.Given as goal
 
 abbrev pub invariant-loop-level : goal.invariant-loop-level
 invariant-loop-level l = record {
-  extends : Extends l.fn.nodes l.nodes;
+  grows : Grows l.fn.nodes l.nodes (96 * l.level);
   number : HasNumber l.nodes l.word (λ free. shifted_down (number_of free l.fn.nodes l.a) (truth free l.fn.nodes l.sign) (low_number free l.fn.nodes l.count l.level));
-  gates : gates_in l.nodes ≤ gates_in l.fn.nodes + 96 * l.level;
 }

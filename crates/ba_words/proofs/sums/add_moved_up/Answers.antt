@@ -1,14 +1,14 @@
-use Rattle.std.proofs.Common.{◌^◌, ◌∙◌, arith}
+use Rattle.std.proofs.Common.{◌^◌, ◌∙◌, arith, rules}
 use Rattle.ba_nodes.specs.Gates.{truth}
 use Rattle.ba_words.specs.Words.{digit, number_of, low_number}
 use Rattle.ba_words.proofs.Carries.{at_place}
-use Rattle.ba_words.proofs.Outcomes.{on_ok}
+use Rattle.ba_words.proofs.Outcomes.{on_ok, makes_word}
 use Rattle.ba_words.proofs.Shapes.{moved_up-number, moved_up-none}
 use Rattle.ba_words.proofs.sums.add_moved_up.Goals as goal
 
-pub returns-clause-number : goal.returns-clause-number
-returns-clause-number c =
-    on_ok c.sum_from.result _ _
+pub returns : goal.returns
+returns c = makes_word (search rules)
+    (on_ok c.sum_from.result _ _
     (λ word has. record {
       long = has.long;
       are_bits = has.are_bits;
@@ -23,4 +23,4 @@ returns-clause-number c =
           (moved_up-none free old moved c.args.b.now c.args.place (omega (arith, c.requires.small)) c.moved_up.ensures.long
           c.moved_up.ensures.places);
     })
-    c.sum_from.ensures.number
+    c.sum_from.ensures.number)

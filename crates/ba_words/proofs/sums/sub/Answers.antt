@@ -1,10 +1,8 @@
-use Rattle.ba_words.proofs.Outcomes.{on_ok}
-use Rattle.ba_words.proofs.Carries.{subtracted}
+use Rattle.std.proofs.Common.{rules}
+use Rattle.ba_numbers.specs.declared.numbers.BinOp.TheVariants.{Sub}
+use Rattle.ba_words.proofs.Outcomes.{circuit}
+use Rattle.ba_words.proofs.Values.{sub_value}
 use Rattle.ba_words.proofs.sums.sub.Goals as goal
 
-pub returns-clause-value : goal.returns-clause-value
-returns-clause-value c =
-    on_ok c.sum.result _ _
-    (λ word has. subtracted c.args.nodes.now c.sum.new.nodes c.args.a.now c.args.b.now word c.constant.result c.flip-complement.result c.told-a c.told-b
-    (c.flip-complement.ensures.number c.args.nodes.now) (c.constant.ensures.value c.args.nodes.now) has)
-    c.sum.ensures.number
+pub returns : goal.returns
+returns c = circuit Sub c.args.nodes.now c.sum.new.nodes c.args.a.now c.args.b.now c.sum.result (λ signed m n m_small n_small. sub_value signed m n n_small) c.told-a c.told-b (search rules)

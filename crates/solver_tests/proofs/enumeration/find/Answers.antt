@@ -27,10 +27,12 @@ all_sets-requires-clause-fresh g c = λ working.
     ap (λ (f : Cnf). map (kept Given) f.clauses) c.formula-2.ensures
     ∙ sym (ap (λ (s : State). s.clauses) begins) in
     let live : AreLive c.expect-search.result.clauses (clause_at given) =
-    (subst (λ made. IfOk made (Starts c.formula-2.result.now)) c.expect-search.ensures c.new.ensures.starts).clauses
+    (subst (λ made. IfOk made (Starts c.formula-2.result.now)) c.expect-search.ensures
+    c.new.ensures.starts).clauses
     in
     record {
       same = subst (λ (cs : List Kept). AreLive c.expect-search.result.clauses (clause_at cs)) clauses live;
-      starts = begins ∙ ap (λ n. first_state formula softs n sets) (sym (ap (λ (s : State). s.budget) begins));
+      starts = begins ∙ ap (λ n. first_state formula softs n sets) (sym (ap (λ (s : State). s.budget)
+          begins));
       accepted = ap (λ x. x.refusal) c.new-checked.ensures;
     }

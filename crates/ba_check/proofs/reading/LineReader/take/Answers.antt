@@ -1,6 +1,5 @@
-use Rattle.std.proofs.Common.{◌++◌, refl}
+use Rattle.std.proofs.Common.{refl}
 use Rattle.std.proofs.lemmas.Result.{err_from_is_err_and}
-use Rattle.ba_check.specs.Lines.{rest_in}
 use Rattle.ba_check.specs.Readings.{course_kept}
 use Rattle.ba_check.proofs.CodeLaws.{line-more, line-refused, piece-ends}
 use Rattle.ba_check.proofs.reading.LineReader.take.Goals as goal
@@ -13,8 +12,7 @@ returns-in_err-end_line g c =
     c.args.self.now.rest.items c.args.piece.now (course_kept c.loop-end.self.judged)
     c.loop-end.self.rest.items
     c.loop-end.left.now (c.loop-end.invariant plain) c.end_line.new.self.judged c.end_line.new.self.judged
-    c.end_line.new.self.rest.items (rest_in (c.args.self.now.rest.items ++ c.args.piece.now))
-    c.in-Some.end.now
+    c.end_line.new.self.rest.items c.in-Some.end.now
     c.in-Some.behind.now _ c.in-Some.ensures c.in_err-end_line.ensures.keeps)
 
 pub loop-end-preserved : goal.loop-end-preserved

@@ -14,13 +14,12 @@ use Rattle.ba_search.proofs.StepLaws.{leaves_none}
 use Rattle.ba_search.proofs.engine.Engine.learn.Goals as goal
 
 pub returns-in_err-learnt-clause-leaves : goal.returns-in_err-learnt-clause-leaves
-returns-in_err-learnt-clause-leaves g c = leaves_none (g.L.ProofLog.log c.args.log.now).accepts
-    nothing c.args.self.now.numbers.learnt (g.L.ProofLog.log c.args.log.now).checker
-    (g.L.ProofLog.log c.args.log.now).told.logs
+returns-in_err-learnt-clause-leaves g c = leaves_none nothing (g.L.ProofLog.log c.args.log.now)
+    c.args.self.now.numbers.learnt
 
 pub returns-in_err-step-clause-leaves : goal.returns-in_err-step-clause-leaves
-returns-in_err-step-clause-leaves g c = leaves_none (g.L.ProofLog.log c.args.log.now).accepts nothing
-    c.args.self.now.numbers.learnt (g.L.ProofLog.log c.args.log.now).checker (g.L.ProofLog.log c.args.log.now).told.logs
+returns-in_err-step-clause-leaves g c = leaves_none nothing (g.L.ProofLog.log c.args.log.now)
+    c.args.self.now.numbers.learnt
 
 pub put-requires-clause-formed : goal.put-requires-clause-formed
 put-requires-clause-formed g c =
@@ -58,9 +57,8 @@ returns-in_err-put-clause-leaves g c =
     c.args.self.now.numbers k c.in_ok-learnt.learnt.lits c.in_ok-learnt.learnt.hints
     c.in_ok-learnt.learnt.back
     c.keeps_facts.ensures formed c.requires.underway c.requires.left l.clause l.follows l.new l.backed in
-    learnt_tried (g.L.ProofLog.log c.args.log.now).accepts nothing k (g.L.ProofLog.log c.put.new.self).checker
-    c.args.self.now.numbers.learnt (g.L.ProofLog.log c.args.log.now).told.logs
-    (g.L.ProofLog.log c.put.new.self).told.logs c.in_ok-learnt.learnt.lits c.in_ok-learnt.learnt.hints
+    learnt_tried nothing (g.L.ProofLog.log c.args.log.now) (g.L.ProofLog.log c.put.new.self)
+    c.args.self.now.numbers.learnt c.in_ok-learnt.learnt.lits c.in_ok-learnt.learnt.hints
     c.in_ok-step.step
     c.in_ok-step.ensures step
     (c.in_err-put.ensures.taken_or_asleep c.requires.fresh) c.in_err-put.ensures.refused
@@ -75,9 +73,8 @@ returns-in_err-backjump-clause-leaves g c =
     c.args.self.now.numbers k c.in_ok-learnt.learnt.lits c.in_ok-learnt.learnt.hints
     c.in_ok-learnt.learnt.back
     c.keeps_facts.ensures formed c.requires.underway c.requires.left l.clause l.follows l.new l.backed in
-    learnt_left (g.L.ProofLog.log c.args.log.now).accepts nothing k (g.L.ProofLog.log c.put.new.self).checker
-    c.args.self.now.numbers.learnt (g.L.ProofLog.log c.args.log.now).told.logs
-    (g.L.ProofLog.log c.put.new.self).told.logs c.in_ok-learnt.learnt.lits c.in_ok-learnt.learnt.hints
+    learnt_left nothing (g.L.ProofLog.log c.args.log.now) (g.L.ProofLog.log c.put.new.self)
+    c.args.self.now.numbers.learnt c.in_ok-learnt.learnt.lits c.in_ok-learnt.learnt.hints
     c.in_ok-step.step
     c.in_ok-step.ensures step c.in_ok-put.ensures.taken c.in_ok-put.ensures.told
 
@@ -91,22 +88,26 @@ returns-clause-goes_on g c =
     c.args.self.now.numbers k c.in_ok-learnt.learnt.lits c.in_ok-learnt.learnt.hints
     c.in_ok-learnt.learnt.back
     c.keeps_facts.ensures formed c.requires.underway c.requires.left l.clause l.follows l.new l.backed in
-    let taken = step_taken (g.L.ProofLog.log c.args.log.now).checker (g.L.ProofLog.log c.put.new.self).checker c.in_ok-learnt.learnt.lits
+    let taken = step_taken (g.L.ProofLog.log c.args.log.now).checker (g.L.ProofLog.log c.put.new.self).checker
+    c.in_ok-learnt.learnt.lits
     c.in_ok-learnt.learnt.hints c.in_ok-step.step c.in_ok-step.ensures c.in_ok-put.ensures.taken in
     record {
-      underway = underway_jump c.args.assumptions.now c.args.self.now.watch c.bump.new.self.watch c.backjump.new.self.watch
+      underway = underway_jump c.args.assumptions.now c.args.self.now.watch c.bump.new.self.watch
+          c.backjump.new.self.watch
           c.args.self.now.numbers c.bump.new.self.numbers c.backjump.new.self.numbers
-          c.last.result (g.L.ProofLog.log c.args.log.now).checker (g.L.ProofLog.log c.put.new.self).checker c.in_ok-learnt.learnt.lits
-          c.in_ok-learnt.learnt.back c.bump.ensures.watch c.bump.ensures.numbers c.in_ok-backjump.ensures.learns
+          c.last.result (g.L.ProofLog.log c.args.log.now).checker (g.L.ProofLog.log c.put.new.self).checker
+          c.in_ok-learnt.learnt.lits
+          c.in_ok-learnt.learnt.back c.bump.ensures.watch c.bump.ensures.numbers
+          c.in_ok-backjump.ensures.learns
           (c.last.ensures ∙ ap (λ (x : State). length x.clauses) c.checker-2.ensures)
-          (step_taken (g.L.ProofLog.log c.args.log.now).checker (g.L.ProofLog.log c.put.new.self).checker c.in_ok-learnt.learnt.lits
+          (step_taken (g.L.ProofLog.log c.args.log.now).checker (g.L.ProofLog.log c.put.new.self).checker
+          c.in_ok-learnt.learnt.lits
           c.in_ok-learnt.learnt.hints c.in_ok-step.step c.in_ok-step.ensures c.in_ok-put.ensures.taken)
           c.requires.underway;
       variables = ap (λ (x : State). x.variables) taken;
-      puts = learnt_puts (g.L.ProofLog.log c.args.log.now).accepts nothing k (g.L.ProofLog.log c.put.new.self).checker
-          c.args.self.now.numbers.learnt c.backjump.new.self.numbers.learnt
-          (g.L.ProofLog.log c.args.log.now).told.logs
-          (g.L.ProofLog.log c.put.new.self).told.logs c.in_ok-learnt.learnt.lits c.in_ok-learnt.learnt.hints
+      puts = learnt_puts nothing (g.L.ProofLog.log c.args.log.now) (g.L.ProofLog.log c.put.new.self)
+          c.args.self.now.numbers.learnt c.backjump.new.self.numbers.learnt c.in_ok-learnt.learnt.lits
+          c.in_ok-learnt.learnt.hints
           c.in_ok-step.step
           c.in_ok-step.ensures step c.in_ok-put.ensures.taken
           (c.in_ok-backjump.ensures.learns.learnt
@@ -126,20 +127,21 @@ returns-clause-leaves g c =
     c.args.self.now.numbers k c.in_ok-learnt.learnt.lits c.in_ok-learnt.learnt.hints
     c.in_ok-learnt.learnt.back
     c.keeps_facts.ensures formed c.requires.underway c.requires.left l.clause l.follows l.new l.backed in
-    learnt_left (g.L.ProofLog.log c.args.log.now).accepts nothing k (g.L.ProofLog.log c.put.new.self).checker
-    c.args.self.now.numbers.learnt (g.L.ProofLog.log c.args.log.now).told.logs
-    (g.L.ProofLog.log c.put.new.self).told.logs c.in_ok-learnt.learnt.lits c.in_ok-learnt.learnt.hints
+    learnt_left nothing (g.L.ProofLog.log c.args.log.now) (g.L.ProofLog.log c.put.new.self)
+    c.args.self.now.numbers.learnt c.in_ok-learnt.learnt.lits c.in_ok-learnt.learnt.hints
     c.in_ok-step.step
     c.in_ok-step.ensures step c.in_ok-put.ensures.taken c.in_ok-put.ensures.told
 
 pub returns-clause-less : goal.returns-clause-less
 returns-clause-less g c =
-    learnt_less (g.L.ProofLog.log c.args.log.now).checker (g.L.ProofLog.log c.put.new.self).checker c.args.self.now.watch
+    learnt_less (g.L.ProofLog.log c.args.log.now).checker (g.L.ProofLog.log c.put.new.self).checker
+    c.args.self.now.watch
     c.backjump.new.self.watch
     (after_backtrack c.in_ok-learnt.learnt.back c.bump.new.self.watch) c.bump.new.self.numbers
     c.backjump.new.self.numbers c.last.result
     c.args.self.now.backtracks_left 1000 c.in_ok-learnt.learnt.back c.in_ok-learnt.learnt.lits
-    (step_taken (g.L.ProofLog.log c.args.log.now).checker (g.L.ProofLog.log c.put.new.self).checker c.in_ok-learnt.learnt.lits
+    (step_taken (g.L.ProofLog.log c.args.log.now).checker (g.L.ProofLog.log c.put.new.self).checker
+    c.in_ok-learnt.learnt.lits
     c.in_ok-learnt.learnt.hints c.in_ok-step.step c.in_ok-step.ensures c.in_ok-put.ensures.taken)
     (ap (after_backtrack c.in_ok-learnt.learnt.back) c.bump.ensures.watch) c.in_ok-backjump.ensures.learns
     (omega arith) c.requires.left
@@ -152,7 +154,8 @@ backjump-requires-clause-fresh g c =
     c.requires.underway.numbered c.requires.underway.live
     (c.last.ensures ∙ (ap (λ (x : State). length x.clauses) c.checker-2.ensures
     ∙ (ap (λ (x : State). length x.clauses)
-    (step_taken k (g.L.ProofLog.log c.put.new.self).checker c.in_ok-learnt.learnt.lits c.in_ok-learnt.learnt.hints
+    (step_taken k (g.L.ProofLog.log c.put.new.self).checker c.in_ok-learnt.learnt.lits
+    c.in_ok-learnt.learnt.hints
     c.in_ok-step.step
     c.in_ok-step.ensures c.in_ok-put.ensures.taken)
     ∙ length_push k.clauses (kept Learnt c.in_ok-learnt.learnt.lits)))))

@@ -11,15 +11,13 @@ pub returns-then-is_empty-clause-goes_on : goal.returns-then-is_empty-clause-goe
 returns-then-is_empty-clause-goes_on g c = record {
   underway = c.requires.underway;
   variables = refl;
-  puts = puts_none (g.L.ProofLog.log c.args.log.now).accepts
-      (g.R.SearchRules.keeping c.args.rules.now) (g.L.ProofLog.log c.args.log.now).checker
-      c.args.self.now.numbers.learnt (g.L.ProofLog.log c.args.log.now).told.logs;
+  puts = puts_none (g.R.SearchRules.keeping c.args.rules.now) (g.L.ProofLog.log c.args.log.now)
+      c.args.self.now.numbers.learnt;
 }
 
 pub returns-then-is_empty-clause-leaves : goal.returns-then-is_empty-clause-leaves
-returns-then-is_empty-clause-leaves g c = leaves_none (g.L.ProofLog.log c.args.log.now).accepts
-    (g.R.SearchRules.keeping c.args.rules.now) c.args.self.now.numbers.learnt
-    (g.L.ProofLog.log c.args.log.now).checker (g.L.ProofLog.log c.args.log.now).told.logs
+returns-then-is_empty-clause-leaves g c = leaves_none (g.R.SearchRules.keeping c.args.rules.now)
+    (g.L.ProofLog.log c.args.log.now) c.args.self.now.numbers.learnt
 
 pub put-requires-clause-formed : goal.put-requires-clause-formed
 put-requires-clause-formed g c =
@@ -64,10 +62,9 @@ put-requires-clause-allowed g c = λ fresh awake.
 pub returns-in_err-put-clause-leaves : goal.returns-in_err-put-clause-leaves
 returns-in_err-put-clause-leaves g c =
     let k = (g.L.ProofLog.log c.args.log.now).checker in
-    delete_tried (g.L.ProofLog.log c.args.log.now).accepts
-    (g.R.SearchRules.keeping c.args.rules.now) k (g.L.ProofLog.log c.put.new.self).checker
-    c.args.self.now.numbers.learnt (g.L.ProofLog.log c.args.log.now).told.logs
-    (g.L.ProofLog.log c.put.new.self).told.logs c.discarded-numbers.result.items c.from_vec.result
+    delete_tried (g.R.SearchRules.keeping c.args.rules.now) (g.L.ProofLog.log c.args.log.now)
+    (g.L.ProofLog.log c.put.new.self) c.args.self.now.numbers.learnt c.discarded-numbers.result.items
+    c.from_vec.result
     c.from_vec.ensures
     (delete_step (g.L.ProofLog.log c.args.log.now).accepts
     (g.R.SearchRules.keeping c.args.rules.now) c.args.assumptions.now
@@ -93,13 +90,16 @@ pub returns-clause-goes_on : goal.returns-clause-goes_on
 returns-clause-goes_on g c =
     let k = (g.L.ProofLog.log c.args.log.now).checker in
     let d = (g.L.ProofLog.log c.put.new.self).checker in
-    let taken = delete_taken (g.L.ProofLog.log c.args.log.now).checker d c.discarded-numbers.result.items c.from_vec.result
+    let taken = delete_taken (g.L.ProofLog.log c.args.log.now).checker d c.discarded-numbers.result.items
+    c.from_vec.result
     c.from_vec.ensures c.in_ok-put.ensures.taken in
     record {
       underway = underway_deleted c.args.assumptions.now c.args.self.now.watch c.delete.new.self.watch
           c.args.self.now.numbers
-          c.delete.new.self.numbers (g.L.ProofLog.log c.args.log.now).checker d c.discarded-numbers.result.items
-          (delete_taken (g.L.ProofLog.log c.args.log.now).checker d c.discarded-numbers.result.items c.from_vec.result
+          c.delete.new.self.numbers (g.L.ProofLog.log c.args.log.now).checker d
+          c.discarded-numbers.result.items
+          (delete_taken (g.L.ProofLog.log c.args.log.now).checker d c.discarded-numbers.result.items
+          c.from_vec.result
           c.from_vec.ensures
           c.in_ok-put.ensures.taken)
           (subst (λ (ns : List ℕ). Deletes c.args.self.now.watch c.delete.new.self.watch ns)
@@ -109,11 +109,9 @@ returns-clause-goes_on g c =
           c.as_slice.ensures.value c.delete.ensures.forgets)
           c.requires.underway;
       variables = ap (λ (x : State). x.variables) taken;
-      puts = delete_puts (g.L.ProofLog.log c.args.log.now).accepts
-          (g.R.SearchRules.keeping c.args.rules.now) k (g.L.ProofLog.log c.put.new.self).checker
-          c.args.self.now.numbers.learnt c.delete.new.self.numbers.learnt
-          (g.L.ProofLog.log c.args.log.now).told.logs
-          (g.L.ProofLog.log c.put.new.self).told.logs c.discarded-numbers.result.items c.from_vec.result
+      puts = delete_puts (g.R.SearchRules.keeping c.args.rules.now) (g.L.ProofLog.log c.args.log.now)
+          (g.L.ProofLog.log c.put.new.self) c.args.self.now.numbers.learnt c.delete.new.self.numbers.learnt
+          c.discarded-numbers.result.items c.from_vec.result
           c.from_vec.ensures
           (delete_step (g.L.ProofLog.log c.args.log.now).accepts
           (g.R.SearchRules.keeping c.args.rules.now) c.args.assumptions.now
@@ -133,10 +131,8 @@ returns-clause-goes_on g c =
 pub returns-clause-leaves : goal.returns-clause-leaves
 returns-clause-leaves g c =
     let k = (g.L.ProofLog.log c.args.log.now).checker in
-    delete_left (g.L.ProofLog.log c.args.log.now).accepts
-    (g.R.SearchRules.keeping c.args.rules.now) k (g.L.ProofLog.log c.put.new.self).checker
-    c.args.self.now.numbers.learnt (g.L.ProofLog.log c.args.log.now).told.logs
-    (g.L.ProofLog.log c.put.new.self).told.logs c.discarded-numbers.result.items c.from_vec.result
+    delete_left (g.R.SearchRules.keeping c.args.rules.now) (g.L.ProofLog.log c.args.log.now) (g.L.ProofLog.log
+    c.put.new.self) c.args.self.now.numbers.learnt c.discarded-numbers.result.items c.from_vec.result
     c.from_vec.ensures
     (delete_step (g.L.ProofLog.log c.args.log.now).accepts
     (g.R.SearchRules.keeping c.args.rules.now) c.args.assumptions.now

@@ -1,5 +1,5 @@
 use Rattle.std.proofs.Common.{ap, subst, ◌∙◌, refl}
-use Rattle.ba_search.specs.Searching.{LeavesBetween}
+use Rattle.ba_search.specs.Searching.{Leaves}
 use Rattle.ba_search.specs.Iterations.{Numbering}
 use Rattle.ba_search.proofs.UnderwayLaws.{underway_back, underway_moved}
 use Rattle.ba_search.proofs.StepLaws.{puts_stay, puts_from, leaves_none}
@@ -9,29 +9,23 @@ pub returns-in_ok-reduce-clause-goes_on : goal.returns-in_ok-reduce-clause-goes_
 returns-in_ok-reduce-clause-goes_on g c = record {
   underway = c.in_ok-reduce.ensures.goes_on.underway;
   variables = c.in_ok-reduce.ensures.goes_on.variables;
-  puts = puts_from (g.L.ProofLog.log c.args.log.now).accepts
-      (g.R.SearchRules.keeping c.args.rules.now) (g.L.ProofLog.log c.args.log.now).checker
-      (g.L.ProofLog.log c.reduce.new.log).checker c.note_restart.new.self.numbers.learnt c.args.self.now.numbers.learnt
-      c.reduce.new.self.numbers.learnt (g.L.ProofLog.log c.args.log.now).told.logs
-      (g.L.ProofLog.log c.reduce.new.log).told.logs
+  puts = puts_from (g.R.SearchRules.keeping c.args.rules.now) (g.L.ProofLog.log c.args.log.now)
+      (g.L.ProofLog.log c.reduce.new.log) c.note_restart.new.self.numbers.learnt
+      c.args.self.now.numbers.learnt c.reduce.new.self.numbers.learnt
       (ap (λ (n : Numbering). n.learnt) (c.note_restart.ensures.numbers ∙ c.backtrack.ensures.numbers))
       c.in_ok-reduce.ensures.goes_on.puts;
 }
 
 pub returns-in_ok-reduce-clause-leaves : goal.returns-in_ok-reduce-clause-leaves
 returns-in_ok-reduce-clause-leaves g c =
-    subst (λ (n : Numbering). LeavesBetween (g.L.ProofLog.log c.args.log.now).accepts
-    (g.R.SearchRules.keeping c.args.rules.now) n.learnt
-    (g.L.ProofLog.log c.args.log.now).checker
-    (g.L.ProofLog.log c.args.log.now).told.logs (g.L.ProofLog.log c.reduce.new.log).checker (g.L.ProofLog.log c.reduce.new.log).told.logs)
+    subst (λ (n : Numbering). Leaves (g.R.SearchRules.keeping c.args.rules.now) n.learnt
+    (g.L.ProofLog.log c.args.log.now) (g.L.ProofLog.log c.reduce.new.log))
     (c.note_restart.ensures.numbers ∙ c.backtrack.ensures.numbers) c.reduce.ensures.leaves
 
 pub returns-in_err-reduce-clause-leaves : goal.returns-in_err-reduce-clause-leaves
 returns-in_err-reduce-clause-leaves g c =
-    subst (λ (n : Numbering). LeavesBetween (g.L.ProofLog.log c.args.log.now).accepts
-    (g.R.SearchRules.keeping c.args.rules.now) n.learnt
-    (g.L.ProofLog.log c.args.log.now).checker
-    (g.L.ProofLog.log c.args.log.now).told.logs (g.L.ProofLog.log c.reduce.new.log).checker (g.L.ProofLog.log c.reduce.new.log).told.logs)
+    subst (λ (n : Numbering). Leaves (g.R.SearchRules.keeping c.args.rules.now) n.learnt
+    (g.L.ProofLog.log c.args.log.now) (g.L.ProofLog.log c.reduce.new.log))
     (c.note_restart.ensures.numbers ∙ c.backtrack.ensures.numbers) c.reduce.ensures.leaves
 
 pub returns-else-may_reduce-clause-goes_on : goal.returns-else-may_reduce-clause-goes_on
@@ -44,14 +38,11 @@ returns-else-may_reduce-clause-goes_on g c = record {
       c.args.self.now.numbers
       (g.L.ProofLog.log c.args.log.now).checker 0 c.backtrack.ensures.watch c.requires.underway);
   variables = refl;
-  puts = puts_stay (g.L.ProofLog.log c.args.log.now).accepts
-      (g.R.SearchRules.keeping c.args.rules.now) (g.L.ProofLog.log c.args.log.now).checker
+  puts = puts_stay (g.R.SearchRules.keeping c.args.rules.now) (g.L.ProofLog.log c.args.log.now)
       c.args.self.now.numbers.learnt c.note_restart.new.self.numbers.learnt
-      (g.L.ProofLog.log c.args.log.now).told.logs
       (ap (λ (n : Numbering). n.learnt) (c.note_restart.ensures.numbers ∙ c.backtrack.ensures.numbers));
 }
 
 pub returns-else-may_reduce-clause-leaves : goal.returns-else-may_reduce-clause-leaves
-returns-else-may_reduce-clause-leaves g c = leaves_none (g.L.ProofLog.log c.args.log.now).accepts
-    (g.R.SearchRules.keeping c.args.rules.now) c.args.self.now.numbers.learnt
-    (g.L.ProofLog.log c.args.log.now).checker (g.L.ProofLog.log c.args.log.now).told.logs
+returns-else-may_reduce-clause-leaves g c = leaves_none (g.R.SearchRules.keeping c.args.rules.now)
+    (g.L.ProofLog.log c.args.log.now) c.args.self.now.numbers.learnt

@@ -28,9 +28,8 @@ iterations-init g c =
           c.backtrack.ensures.watch c.keeps_facts.ensures c.requires.ready.numbered c.requires.ready.live
           few c.requires.ready.begun c.requires.ready.awake);
       variables = refl;
-      puts = puts_none (g.L.ProofLog.log c.args.log.now).accepts
-          (g.R.SearchRules.keeping c.args.rules.now) k
-          c.backtrack.new.self.numbers.learnt (g.L.ProofLog.log c.args.log.now).told.logs;
+      puts = puts_none (g.R.SearchRules.keeping c.args.rules.now) (g.L.ProofLog.log c.args.log.now)
+          c.backtrack.new.self.numbers.learnt;
       fresh = c.requires.ready.fresh;
       propagated = omega (arith, c.grow.ensures.propagated, c.backtrack.ensures.learns_nothing.propagated);
       lasts = lasts_same (g.L.ProofLog.log c.args.log.now);
@@ -38,20 +37,14 @@ iterations-init g c =
 
 pub returns-in-Some-clause-puts : goal.returns-in-Some-clause-puts
 returns-in-Some-clause-puts g c =
-    puts_from (g.L.ProofLog.log c.args.log.now).accepts
-    (g.R.SearchRules.keeping c.args.rules.now) (g.L.ProofLog.log c.args.log.now).checker
-    (g.L.ProofLog.log c.iterate.new.log).checker c.backtrack.new.self.numbers.learnt c.args.self.now.numbers.learnt
-    c.iterate.new.self.numbers.learnt (g.L.ProofLog.log c.args.log.now).told.logs
-    (g.L.ProofLog.log c.iterate.new.log).told.logs
+    puts_from (g.R.SearchRules.keeping c.args.rules.now) (g.L.ProofLog.log c.args.log.now) (g.L.ProofLog.log
+    c.iterate.new.log) c.backtrack.new.self.numbers.learnt c.args.self.now.numbers.learnt
+    c.iterate.new.self.numbers.learnt
     (ap (λ (n : Numbering). n.learnt) (c.backtrack.ensures.numbers ∙ c.grow.ensures.numbers))
-    (puts_then (g.L.ProofLog.log c.args.log.now).accepts
-    (g.L.ProofLog.log c.iterations.log).accepts
-    (g.R.SearchRules.keeping c.args.rules.now) (g.L.ProofLog.log c.args.log.now).checker
-    (g.L.ProofLog.log c.iterations.log).checker (g.L.ProofLog.log c.iterate.new.log).checker
-    c.backtrack.new.self.numbers.learnt c.iterations.self.numbers.learnt c.iterate.new.self.numbers.learnt
-    (g.L.ProofLog.log c.args.log.now).told.logs (g.L.ProofLog.log c.iterations.log).told.logs
-    (g.L.ProofLog.log c.iterate.new.log).told.logs
-    c.iterations.invariant.lasts.judge_stays c.iterations.invariant.puts
+    (puts_then (g.R.SearchRules.keeping c.args.rules.now) (g.L.ProofLog.log c.args.log.now) (g.L.ProofLog.log
+    c.iterations.log) (g.L.ProofLog.log c.iterate.new.log) c.backtrack.new.self.numbers.learnt
+    c.iterations.self.numbers.learnt c.iterate.new.self.numbers.learnt c.iterations.invariant.lasts
+    c.iterations.invariant.puts
     c.in_ok-answer.ensures.goes_on.puts)
 
 pub iterations-preserved : goal.iterations-preserved
@@ -61,64 +54,42 @@ iterations-preserved g c =
     record {
       underway = t.goes_on.underway;
       variables = t.goes_on.variables ∙ i.variables;
-      puts = puts_then (g.L.ProofLog.log c.args.log.now).accepts
-          (g.L.ProofLog.log c.iterations.log).accepts
-          (g.R.SearchRules.keeping c.args.rules.now) (g.L.ProofLog.log c.args.log.now).checker
-          (g.L.ProofLog.log c.iterations.log).checker (g.L.ProofLog.log c.iterate.new.log).checker
+      puts = puts_then (g.R.SearchRules.keeping c.args.rules.now) (g.L.ProofLog.log c.args.log.now)
+          (g.L.ProofLog.log c.iterations.log) (g.L.ProofLog.log c.iterate.new.log)
           c.backtrack.new.self.numbers.learnt c.iterations.self.numbers.learnt
-          c.iterate.new.self.numbers.learnt
-          (g.L.ProofLog.log c.args.log.now).told.logs (g.L.ProofLog.log c.iterations.log).told.logs
-          (g.L.ProofLog.log c.iterate.new.log).told.logs
-          i.lasts.judge_stays i.puts t.goes_on.puts;
+          c.iterate.new.self.numbers.learnt i.lasts i.puts t.goes_on.puts;
       fresh = t.ran.fresh;
       propagated = omega (arith, c.iterate.ensures.propagated, i.propagated);
-      lasts = lasts_then (g.L.ProofLog.log c.args.log.now) (g.L.ProofLog.log c.iterations.log) (g.L.ProofLog.log c.iterate.new.log) i.lasts t.ran.lasts;
+      lasts = lasts_then (g.L.ProofLog.log c.args.log.now) (g.L.ProofLog.log c.iterations.log)
+          (g.L.ProofLog.log c.iterate.new.log) i.lasts t.ran.lasts;
     }
 
 pub returns-then-last-clause-leaves : goal.returns-then-last-clause-leaves
-returns-then-last-clause-leaves g c = leaves_none (g.L.ProofLog.log c.args.log.now).accepts
-    (g.R.SearchRules.keeping c.args.rules.now) c.args.self.now.numbers.learnt
-    (g.L.ProofLog.log c.args.log.now).checker (g.L.ProofLog.log c.args.log.now).told.logs
+returns-then-last-clause-leaves g c = leaves_none (g.R.SearchRules.keeping c.args.rules.now) (g.L.ProofLog.log
+    c.args.log.now) c.args.self.now.numbers.learnt
 
 pub returns-in_err-grow-clause-leaves : goal.returns-in_err-grow-clause-leaves
-returns-in_err-grow-clause-leaves g c = leaves_none (g.L.ProofLog.log c.args.log.now).accepts
-    (g.R.SearchRules.keeping c.args.rules.now) c.args.self.now.numbers.learnt
-    (g.L.ProofLog.log c.args.log.now).checker (g.L.ProofLog.log c.args.log.now).told.logs
+returns-in_err-grow-clause-leaves g c = leaves_none (g.R.SearchRules.keeping c.args.rules.now)
+    (g.L.ProofLog.log c.args.log.now) c.args.self.now.numbers.learnt
 
 pub returns-in_err-answer-clause-leaves : goal.returns-in_err-answer-clause-leaves
 returns-in_err-answer-clause-leaves g c =
-    leaves_from (g.L.ProofLog.log c.args.log.now).accepts
-    (g.R.SearchRules.keeping c.args.rules.now)
-    c.backtrack.new.self.numbers.learnt
-    c.args.self.now.numbers.learnt (g.L.ProofLog.log c.args.log.now).checker (g.L.ProofLog.log c.iterate.new.log).checker
-    (g.L.ProofLog.log c.args.log.now).told.logs (g.L.ProofLog.log c.iterate.new.log).told.logs
+    leaves_from (g.R.SearchRules.keeping c.args.rules.now) (g.L.ProofLog.log c.args.log.now) (g.L.ProofLog.log
+    c.iterate.new.log) c.backtrack.new.self.numbers.learnt c.args.self.now.numbers.learnt
     (ap (λ (n : Numbering). n.learnt) (c.backtrack.ensures.numbers ∙ c.grow.ensures.numbers))
-    (leaves_then (g.L.ProofLog.log c.args.log.now).accepts
-    (g.L.ProofLog.log c.iterations.log).accepts
-    (g.R.SearchRules.keeping c.args.rules.now)
-    c.backtrack.new.self.numbers.learnt
-    c.iterations.self.numbers.learnt
-    (g.L.ProofLog.log c.args.log.now).checker (g.L.ProofLog.log c.iterations.log).checker (g.L.ProofLog.log c.iterate.new.log).checker
-    (g.L.ProofLog.log c.args.log.now).told.logs (g.L.ProofLog.log c.iterations.log).told.logs
-    (g.L.ProofLog.log c.iterate.new.log).told.logs
-    c.iterations.invariant.lasts.judge_stays c.iterations.invariant.puts
+    (leaves_then (g.R.SearchRules.keeping c.args.rules.now) (g.L.ProofLog.log c.args.log.now)
+    (g.L.ProofLog.log c.iterations.log) (g.L.ProofLog.log c.iterate.new.log)
+    c.backtrack.new.self.numbers.learnt c.iterations.self.numbers.learnt c.iterations.invariant.lasts
+    c.iterations.invariant.puts
     c.iterate.ensures.leaves)
 
 pub returns-in-Some-clause-leaves : goal.returns-in-Some-clause-leaves
 returns-in-Some-clause-leaves g c =
-    leaves_from (g.L.ProofLog.log c.args.log.now).accepts
-    (g.R.SearchRules.keeping c.args.rules.now)
-    c.backtrack.new.self.numbers.learnt
-    c.args.self.now.numbers.learnt (g.L.ProofLog.log c.args.log.now).checker (g.L.ProofLog.log c.iterate.new.log).checker
-    (g.L.ProofLog.log c.args.log.now).told.logs (g.L.ProofLog.log c.iterate.new.log).told.logs
+    leaves_from (g.R.SearchRules.keeping c.args.rules.now) (g.L.ProofLog.log c.args.log.now) (g.L.ProofLog.log
+    c.iterate.new.log) c.backtrack.new.self.numbers.learnt c.args.self.now.numbers.learnt
     (ap (λ (n : Numbering). n.learnt) (c.backtrack.ensures.numbers ∙ c.grow.ensures.numbers))
-    (leaves_then (g.L.ProofLog.log c.args.log.now).accepts
-    (g.L.ProofLog.log c.iterations.log).accepts
-    (g.R.SearchRules.keeping c.args.rules.now)
-    c.backtrack.new.self.numbers.learnt
-    c.iterations.self.numbers.learnt
-    (g.L.ProofLog.log c.args.log.now).checker (g.L.ProofLog.log c.iterations.log).checker (g.L.ProofLog.log c.iterate.new.log).checker
-    (g.L.ProofLog.log c.args.log.now).told.logs (g.L.ProofLog.log c.iterations.log).told.logs
-    (g.L.ProofLog.log c.iterate.new.log).told.logs
-    c.iterations.invariant.lasts.judge_stays c.iterations.invariant.puts
+    (leaves_then (g.R.SearchRules.keeping c.args.rules.now) (g.L.ProofLog.log c.args.log.now)
+    (g.L.ProofLog.log c.iterations.log) (g.L.ProofLog.log c.iterate.new.log)
+    c.backtrack.new.self.numbers.learnt c.iterations.self.numbers.learnt c.iterations.invariant.lasts
+    c.iterations.invariant.puts
     c.iterate.ensures.leaves)
