@@ -594,6 +594,14 @@ two_files 4 'refused: input, error 1 at number 3' \
 two_files 4 'refused: input, error 2 at number 1' 'in.txt:1:1: error 2: number 1: the number is outside the type of its parameter\n1\n^'
 two_files 4 'refused: input, error 3' \
     'in.txt: error 3: there are too few or too many numbers: main takes one for each parameter and one for each element of an array'
+ranked() { explained "$@" rank p.c in.txt --bound 3; }
+ranked 4 'refused: inputs, error 1 at number 2, line 2' \
+    'in.txt:2:5: error 1: number 2: this is no number; a number is digits, with a hyphen before them where it is negative\n 2  x3 4\n    ^'
+ranked 4 'refused: inputs, error 3, line 2' \
+    'in.txt:2: error 3: there are too few or too many numbers: main takes one for each parameter and one for each element of an array\n 2  x3 4'
+ranked 4 'refused: inputs, error 4' 'in.txt: error 4: no line has an input; blank lines and comments are none'
+ranked 4 'refused: inputs, error 5, line 1' \
+    'in.txt:1: error 5: this is one input too many; at most 64 lines have one\n1'
 two_files 5 'refused: too large' \
     'p.c: too large: it has more than 20,000 units, its size with calls and loops written out; a lower --bound helps, or a lower --depth in recursion'
 two_files 6 'beyond bound at 1:5' \
@@ -626,8 +634,8 @@ words() {
     shift
     explained 2 'refused: words' "bugassist: $says\nbugassist: see bugassist --help" "$@"
 }
-words 'no word is given: the first word is a mode: localise, check, run or sample'
-words "'repair': this is no mode: the first word is localise, check, run or sample" repair p i
+words 'no word is given: the first word is a mode: localise, check, run, rank or sample'
+words "'repair': this is no mode: the first word is localise, check, run, rank or sample" repair p i
 words '--weights: this is no option of the mode, whose options are --bound --depth' run p i --bound 3 --weights w
 words '-b: this is no option of the mode, whose options are --bound --depth' run p i -b 3
 words '--: this is no option of the mode, whose options are none' sample --

@@ -19,6 +19,10 @@ set_usage() {
             files='PROGRAM INPUT CERT'
             ;;
         run) ;;
+        rank)
+            valued='bound depth weights conflicts sets restart'
+            files='PROGRAM INPUTS'
+            ;;
         sample)
             valued=
             files=N
@@ -100,7 +104,7 @@ read_file() {
     next=${wanted%% *}
     case $next in
         PROGRAM) program_file=$1 ;;
-        INPUT) input_file=$1 ;;
+        INPUT | INPUTS) input_file=$1 ;;
         CERT) certificate_file=$1 ;;
         N) read_value N "$1" '' ;;
         *) blame 'words too many' "$1" " $files" ;;
@@ -195,9 +199,9 @@ point_at_line() {
     sed -n "$2{p;q;}" <"$1" | LC_ALL=C tr '\001-\010\013-\037\177' '[ *]' | LC_ALL=C cut -b 1-120
 }
 
-# The line and column of a number of the input, counted from 1.
+# The line and column of a number of the input, counted from 1; or of a number of one line, where that is named.
 place_of_number() {
-    LC_ALL=C awk -v wanted="$2" '{
+    LC_ALL=C awk -v wanted="$2" -v line="${3-}" 'line == "" || NR == line {
         rest = $0
         column = 1
         while (match(rest, /[^ \t\v\f\r]+/)) {
@@ -235,6 +239,33 @@ explain_input() {
     fi
 }
 
+explain_inputs() {
+    rest=${1#*error }
+    code=${rest%%[ ,]*}
+    line=${rest##*line }
+    kind=input
+    case $code in
+        4)
+            tell "$input_file: error 4: $(sentence 'inputs 4')"
+            return
+            ;;
+        5) kind=inputs ;;
+    esac
+    where=
+    case $rest in
+        *' at number '*)
+            number=${rest#*number }
+            number=${number%%,*}
+            [ ! -f "$input_file" ] || where=$(place_of_number "$input_file" "$number" "$line")
+            ;;
+    esac
+    if [ -n "$where" ]; then
+        point "$input_file" "$where" "error $code: number $number: $(sentence "input $code")"
+    else
+        point_at_line "$input_file" "$line" "error $code: $(sentence "$kind $code")"
+    fi
+}
+
 explain_certificate() {
     code=${1#*error }
     code=${code%% *}
@@ -245,7 +276,7 @@ explain_certificate() {
 name_of() {
     case $1 in
         program) tell "$program_file" ;;
-        input) tell "$input_file" ;;
+        input | inputs) tell "$input_file" ;;
         weights) tell "$weights_file" ;;
         certificate) tell "$certificate_file" ;;
     esac
@@ -269,8 +300,12 @@ explain() {
         'refused: words') [ -z "$fault" ] || tell "bugassist: $what: $(sentence "$fault")$more" ;;
         'refused: program, error '*) explain_program "$answer" ;;
         'refused: input, error '*) explain_input "$answer" ;;
+        'refused: inputs, error '*) explain_inputs "$answer" ;;
         'refused: too large') tell "$program_file: too large: $(sentence 'too large')" ;;
-        'beyond bound at '*) point "$program_file" "${answer##* }" "beyond bound: $(sentence 'beyond bound')" ;;
+        'beyond bound at '*)
+            rest=${answer#beyond bound at }
+            point "$program_file" "${rest%: line *}" "beyond bound: $(sentence 'beyond bound')"
+            ;;
         'refused: certificate, error '*) explain_certificate "$answer" ;;
         'refused: '*' cannot be read') explain_unreadable "${rest%% *}" ;;
         'refused: '*' is longer than '*' bytes')

@@ -1,7 +1,7 @@
 -- HOW THE PROGRAM ENDS with an answer: the status, its number, and the text that is printed, with its line
 -- feed.
 
-use Rattle.std.specs.Prelude.{ℕ, Option, None, Some, List, ◌++◌, codes, decimal}
+use Rattle.std.specs.Prelude.{ℕ, Option, None, Some, List, [], ◌++◌, codes, decimal}
 use Rattle.ba_numbers.specs.declared.ids.At.{At}
 use Rattle.ba_answers.specs.declared.answers.Answer.{Answer}
 use Rattle.ba_answers.specs.declared.answers.Answer.TheVariants as answer
@@ -24,15 +24,16 @@ status_of (answer.Accepted claimed) = status.Ok
 status_of (answer.Sampled additions weight sets) = status.Ok
 status_of (answer.AssertFails at) = status.Ok
 status_of (answer.Trap at) = status.Ok
-status_of answer.NotFailing = status.NotFailing
+status_of (answer.Ranked bytes) = status.Ok
+status_of (answer.NotFailing line) = status.NotFailing
 status_of answer.BadWords = status.BadWords
 status_of (answer.BadProgram fault) = status.BadProgram
-status_of (answer.BadInput fault) = status.BadInput
+status_of (answer.BadInput which fault line) = status.BadInput
 status_of answer.TooLarge = status.TooLarge
-status_of (answer.BeyondBound at) = status.BeyondBound
+status_of (answer.BeyondBound at line) = status.BeyondBound
 status_of answer.NoRepair = status.NoRepair
-status_of (answer.TooManySets weight most) = status.TooManySets
-status_of (answer.BudgetSpent conflicts) = status.BudgetSpent
+status_of (answer.TooManySets weight most line) = status.TooManySets
+status_of (answer.BudgetSpent conflicts line) = status.BudgetSpent
 status_of (answer.BadCertificate code line) = status.BadCertificate
 status_of (answer.Unreadable which) = status.ReadFault
 status_of (answer.TooLong which) = status.TooLong
@@ -93,10 +94,22 @@ abbrev pub input_text : InputFault → List ℕ
 input_text (input.NotANumber number) = codes "1 at number " ++ decimal number
 input_text (input.OutOfRange number) = codes "2 at number " ++ decimal number
 input_text input.WrongCount = codes "3"
+input_text input.NoInput = codes "4"
+input_text input.TooMany = codes "5"
+
+-- the line of the input, where there are several
+abbrev pub behind_colon : Option ℕ → List ℕ
+behind_colon None = []
+behind_colon (Some line) = codes ": line " ++ decimal line
+
+abbrev pub behind_comma : Option ℕ → List ℕ
+behind_comma None = []
+behind_comma (Some line) = codes ", line " ++ decimal line
 
 abbrev pub file_word : File → List ℕ
 file_word file.Program = codes "program"
 file_word file.Input = codes "input"
+file_word file.Inputs = codes "inputs"
 file_word file.Weights = codes "weights"
 file_word file.Certificate = codes "certificate"
 
@@ -109,6 +122,7 @@ claim_text claim.BudgetSpent = codes "budget spent"
 -- THE TEXT of an answer
 abbrev pub text_of : Answer → List ℕ
 text_of (answer.Located bytes) = bytes
+text_of (answer.Ranked bytes) = bytes
 text_of (answer.Accepted claimed) = codes "accepted: " ++ claim_text claimed ++ codes "\n"
 text_of (answer.Sampled additions weight sets) =
     codes "sample " ++ decimal additions ++ codes ": weight " ++ decimal weight ++ codes ", sets " ++
@@ -116,19 +130,23 @@ text_of (answer.Sampled additions weight sets) =
     ++ codes "\n"
 text_of (answer.AssertFails at) = codes "assertion fails at " ++ at_text at ++ codes "\n"
 text_of (answer.Trap at) = codes "trap at " ++ at_text at ++ codes "\n"
-text_of answer.NotFailing = codes "not failing\n"
+text_of (answer.NotFailing line) = codes "not failing" ++ behind_colon line ++ codes "\n"
 text_of answer.BadWords = codes "refused: words\n"
 text_of (answer.BadProgram fault) =
     codes "refused: program, error " ++ code_of fault.cause ++ codes " at " ++ place_text fault.at
     ++ codes "\n"
-text_of (answer.BadInput fault) = codes "refused: input, error " ++ input_text fault ++ codes "\n"
+text_of (answer.BadInput which fault line) =
+    codes "refused: " ++ file_word which ++ codes ", error " ++ input_text fault ++ behind_comma line
+    ++ codes "\n"
 text_of answer.TooLarge = codes "refused: too large\n"
-text_of (answer.BeyondBound at) = codes "beyond bound at " ++ at_text at ++ codes "\n"
+text_of (answer.BeyondBound at line) =
+    codes "beyond bound at " ++ at_text at ++ behind_colon line ++ codes "\n"
 text_of answer.NoRepair = codes "no repair\n"
-text_of (answer.TooManySets weight most) =
-    codes "too many sets: weight " ++ decimal weight ++ codes ", more than " ++ decimal most ++ codes "\n"
-text_of (answer.BudgetSpent conflicts) =
-    codes "budget spent: " ++ decimal conflicts ++ codes " conflicts\n"
+text_of (answer.TooManySets weight most line) =
+    codes "too many sets: weight " ++ decimal weight ++ codes ", more than " ++ decimal most
+    ++ behind_comma line ++ codes "\n"
+text_of (answer.BudgetSpent conflicts line) =
+    codes "budget spent: " ++ decimal conflicts ++ codes " conflicts" ++ behind_comma line ++ codes "\n"
 text_of (answer.BadCertificate code line) =
     codes "refused: certificate, error " ++ decimal code ++ codes " at line " ++ decimal line ++ codes "\n"
 text_of (answer.Unreadable which) = codes "refused: " ++ file_word which ++ codes " cannot be read\n"

@@ -1,7 +1,7 @@
 //! What a call of the program comes to, before it is printed.
 
-ghost use Rattle.std.specs.Prelude.{◌≡◌, ◌++◌, codes, decimal, IfOk, OnOk};
-ghost use Rattle.ba_answers.specs.Printed.{at_text, claim_text, code_of, file_word, input_text, place_text, status_of, text_of};
+ghost use Rattle.std.specs.Prelude.{◌≡◌, ◌++◌, ℕ, None, Some, codes, decimal, IfOk, OnOk};
+ghost use Rattle.ba_answers.specs.Printed.{at_text, behind_colon, behind_comma, claim_text, code_of, file_word, input_text, place_text, status_of, text_of};
 ghost use Rattle.ba_answers.specs.declared.answers.Answer.{Answer};
 
 use crate::fault::{Cause, Fault};
@@ -12,7 +12,7 @@ use ba_numbers::ids::At;
 use ba_text::push_number;
 use std::alloc::{AllocError, Global};
 
-/// Why a text is no input of a program. Pieces between blanks are counted from 1.
+/// Why a text gives no input of a program, or no inputs. Pieces between blanks are counted from 1.
 #[derive(Clone, Copy)]
 pub enum InputFault {
     /// The piece of this number is no number.
@@ -21,6 +21,10 @@ pub enum InputFault {
     OutOfRange(u32),
     /// There are fewer or more numbers than the parameters take.
     WrongCount,
+    /// There is no input.
+    NoInput,
+    /// There are more inputs than a text may give.
+    TooMany,
 }
 
 /// What a certificate claims of a failing run.
@@ -51,22 +55,37 @@ pub enum Answer {
     },
     /// The certificate is accepted, and claims this.
     Accepted(Claim),
+    /// The statements were ranked over several inputs: their report.
+    Ranked(Items<u8>),
     /// The run fails at the assertion that begins here.
     AssertFails(At),
     /// The run traps at the statement that begins here.
     Trap(At),
     /// The run as written meets every assertion.
-    NotFailing,
+    NotFailing {
+        /// The line of its input, where there are several.
+        line: Option<u64>,
+    },
     /// The words are no command.
     BadWords,
     /// The text of the program spells none.
     BadProgram(Fault),
-    /// The text of the input is none for the program.
-    BadInput(InputFault),
+    /// The text of this file gives no input of the program, or no inputs.
+    BadInput {
+        file: File,
+        fault: InputFault,
+        /// The line that is refused, where there are several inputs and one of them is.
+        line: Option<u64>,
+    },
     /// The program is too large.
     TooLarge,
-    /// The run goes past a bound at the statement that begins here.
-    BeyondBound(At),
+    /// The run goes past a bound.
+    BeyondBound {
+        /// Where the statement begins.
+        at: At,
+        /// The line of the run's input, where there are several.
+        line: Option<u64>,
+    },
     /// No set of statements could repair the run.
     NoRepair,
     /// There are more least sets than may be listed.
@@ -75,9 +94,16 @@ pub enum Answer {
         weight: u64,
         /// How many sets may be listed.
         most: u32,
+        /// The line of the input, where there are several.
+        line: Option<u64>,
     },
-    /// The search spent so many conflicts before it found out the least sets.
-    BudgetSpent(u64),
+    /// The search spent the conflicts that it may have before it found out the least sets.
+    BudgetSpent {
+        /// How many they are.
+        conflicts: u64,
+        /// The line of the input, where there are several.
+        line: Option<u64>,
+    },
     /// The certificate is refused.
     BadCertificate {
         /// What is wrong: the number of the step's error, from 1 to 14; 20 for a line that has not the form
@@ -105,17 +131,29 @@ impl Drop for Answer {
                 sets: _,
             } => {}
             Answer::Accepted(_) => {}
+            Answer::Ranked(_) => {}
             Answer::AssertFails(_) => {}
             Answer::Trap(_) => {}
-            Answer::NotFailing => {}
+            Answer::NotFailing { line: _ } => {}
             Answer::BadWords => {}
             Answer::BadProgram(_) => {}
-            Answer::BadInput(_) => {}
+            Answer::BadInput {
+                file: _,
+                fault: _,
+                line: _,
+            } => {}
             Answer::TooLarge => {}
-            Answer::BeyondBound(_) => {}
+            Answer::BeyondBound { at: _, line: _ } => {}
             Answer::NoRepair => {}
-            Answer::TooManySets { weight: _, most: _ } => {}
-            Answer::BudgetSpent(_) => {}
+            Answer::TooManySets {
+                weight: _,
+                most: _,
+                line: _,
+            } => {}
+            Answer::BudgetSpent {
+                conflicts: _,
+                line: _,
+            } => {}
             Answer::BadCertificate { code: _, line: _ } => {}
             Answer::Unreadable(_) => {}
             Answer::TooLong(_) => {}
@@ -131,16 +169,16 @@ impl Answer {
     {
         match self {
             Answer::Located(_) | Answer::Sampled { .. } | Answer::Accepted(_) => Status::Ok,
-            Answer::AssertFails(_) | Answer::Trap(_) => Status::Ok,
-            Answer::NotFailing => Status::NotFailing,
+            Answer::Ranked(_) | Answer::AssertFails(_) | Answer::Trap(_) => Status::Ok,
+            Answer::NotFailing { .. } => Status::NotFailing,
             Answer::BadWords => Status::BadWords,
             Answer::BadProgram(_) => Status::BadProgram,
-            Answer::BadInput(_) => Status::BadInput,
+            Answer::BadInput { .. } => Status::BadInput,
             Answer::TooLarge => Status::TooLarge,
-            Answer::BeyondBound(_) => Status::BeyondBound,
+            Answer::BeyondBound { .. } => Status::BeyondBound,
             Answer::NoRepair => Status::NoRepair,
             Answer::TooManySets { .. } => Status::TooManySets,
-            Answer::BudgetSpent(_) => Status::BudgetSpent,
+            Answer::BudgetSpent { .. } => Status::BudgetSpent,
             Answer::BadCertificate { .. } => Status::BadCertificate,
             Answer::Unreadable(_) => Status::ReadFault,
             Answer::TooLong(_) => Status::TooLong,
@@ -165,7 +203,9 @@ fn push_answer(answer: &Answer, text: &mut Vec<u8>) -> Result<(), AllocError>
     ensures { OnOk result (text.new.items ≡ text.old.items ++ text_of answer.now) }
 {
     match answer {
-        Answer::Located(report) => text.extend_from_slice(report.as_slice()),
+        Answer::Located(report) | Answer::Ranked(report) => {
+            text.extend_from_slice(report.as_slice())
+        }
         Answer::Sampled {
             additions,
             weight,
@@ -174,15 +214,15 @@ fn push_answer(answer: &Answer, text: &mut Vec<u8>) -> Result<(), AllocError>
         Answer::Accepted(claim) => push_claim(*claim, text),
         Answer::AssertFails(at) => push_with_place(b"assertion fails at ", *at, text),
         Answer::Trap(at) => push_with_place(b"trap at ", *at, text),
-        Answer::NotFailing => text.extend_from_slice(b"not failing\n"),
+        Answer::NotFailing { line } => push_not_failing(*line, text),
         Answer::BadWords => text.extend_from_slice(b"refused: words\n"),
         Answer::BadProgram(fault) => push_fault(*fault, text),
-        Answer::BadInput(fault) => push_input_fault(*fault, text),
+        Answer::BadInput { file, fault, line } => push_input_fault(*file, *fault, *line, text),
         Answer::TooLarge => text.extend_from_slice(b"refused: too large\n"),
-        Answer::BeyondBound(at) => push_with_place(b"beyond bound at ", *at, text),
+        Answer::BeyondBound { at, line } => push_beyond(*at, *line, text),
         Answer::NoRepair => text.extend_from_slice(b"no repair\n"),
-        Answer::TooManySets { weight, most } => push_too_many(*weight, *most, text),
-        Answer::BudgetSpent(conflicts) => push_spent(*conflicts, text),
+        Answer::TooManySets { weight, most, line } => push_too_many(*weight, *most, *line, text),
+        Answer::BudgetSpent { conflicts, line } => push_spent(*conflicts, *line, text),
         Answer::BadCertificate { code, line } => push_bad_certificate(*code, *line, text),
         Answer::Unreadable(file) => push_with_file(*file, b" cannot be read\n", text),
         Answer::TooLong(file) => push_too_long(*file, text),
@@ -216,6 +256,7 @@ fn file_word(file: File) -> &'static [u8]
     match file {
         File::Program => b"program",
         File::Input => b"input",
+        File::Inputs => b"inputs",
         File::Weights => b"weights",
         File::Certificate => b"certificate",
     }
@@ -324,16 +365,72 @@ fn push_input_error(fault: InputFault, text: &mut Vec<u8>) -> Result<(), AllocEr
         InputFault::NotANumber(number) => push_numbered(b"1 at number ", u64::from(number), text),
         InputFault::OutOfRange(number) => push_numbered(b"2 at number ", u64::from(number), text),
         InputFault::WrongCount => text.extend_from_slice(b"3"),
+        InputFault::NoInput => text.extend_from_slice(b"4"),
+        InputFault::TooMany => text.extend_from_slice(b"5"),
     }
 }
 
-/// Adds the refusal of an input for its fault.
-fn push_input_fault(fault: InputFault, text: &mut Vec<u8>) -> Result<(), AllocError>
-    ensures { OnOk result (text.new.items ≡ text.old.items ++ text_of (Answer.BadInput fault)) }
+/// Adds the number of a line behind these words, where there is one.
+fn push_behind(words: &[u8], line: Option<u64>, text: &mut Vec<u8>) -> Result<(), AllocError>
+    ensures none { line ≡ None → OnOk result (text.new.items ≡ text.old.items) }
+    ensures some { (number : ℕ) → line ≡ Some number → OnOk result
+        (text.new.items ≡ text.old.items ++ (words.now ++ decimal number)) }
 {
-    text.extend_from_slice(b"refused: input, error ")?;
-    push_input_error(fault, text)?;
+    match line {
+        Some(number) => push_numbered(words, number, text),
+        None => Ok(()),
+    }
+}
+
+/// Adds the line of an input behind a colon, where there are several, and a line feed.
+fn push_behind_colon(line: Option<u64>, text: &mut Vec<u8>) -> Result<(), AllocError>
+    ensures { OnOk result (text.new.items
+        ≡ text.old.items ++ (behind_colon line ++ codes "\n")) }
+{
+    push_behind(b": line ", line, text)?;
     text.extend_from_slice(b"\n")
+}
+
+/// Adds the line of an input behind a comma, where there are several, and a line feed.
+fn push_behind_comma(line: Option<u64>, text: &mut Vec<u8>) -> Result<(), AllocError>
+    ensures { OnOk result (text.new.items
+        ≡ text.old.items ++ (behind_comma line ++ codes "\n")) }
+{
+    push_behind(b", line ", line, text)?;
+    text.extend_from_slice(b"\n")
+}
+
+/// Adds that a run meets every assertion.
+fn push_not_failing(line: Option<u64>, text: &mut Vec<u8>) -> Result<(), AllocError>
+    ensures { OnOk result (text.new.items ≡ text.old.items ++ text_of (Answer.NotFailing line)) }
+{
+    text.extend_from_slice(b"not failing")?;
+    push_behind_colon(line, text)
+}
+
+/// Adds that a run goes past a bound.
+fn push_beyond(at: At, line: Option<u64>, text: &mut Vec<u8>) -> Result<(), AllocError>
+    ensures { OnOk result (text.new.items
+        ≡ text.old.items ++ text_of (Answer.BeyondBound at line)) }
+{
+    text.extend_from_slice(b"beyond bound at ")?;
+    push_at(at, text)?;
+    push_behind_colon(line, text)
+}
+
+/// Adds the refusal of a file of inputs for its fault.
+fn push_input_fault(
+    file: File,
+    fault: InputFault,
+    line: Option<u64>,
+    text: &mut Vec<u8>,
+) -> Result<(), AllocError>
+    ensures { OnOk result (text.new.items
+        ≡ text.old.items ++ text_of (Answer.BadInput file fault line)) }
+{
+    push_with_file(file, b", error ", text)?;
+    push_input_error(fault, text)?;
+    push_behind_comma(line, text)
 }
 
 /// Adds the refusal of the weights for a line.
@@ -358,7 +455,7 @@ fn push_between(
     text.extend_from_slice(after)
 }
 
-/// Adds two numbers, each behind these words, and a line feed.
+/// Adds two numbers, each behind these words.
 fn push_two(
     before_first: &[u8],
     first: u64,
@@ -367,17 +464,21 @@ fn push_two(
     text: &mut Vec<u8>,
 ) -> Result<(), AllocError>
     ensures { OnOk result (text.new.items ≡ text.old.items ++ (before_first.now
-        ++ decimal first ++ before_second.now ++ decimal second ++ codes "\n")) }
+        ++ decimal first ++ before_second.now ++ decimal second)) }
 {
     push_numbered(before_first, first, text)?;
-    push_numbered(before_second, second, text)?;
-    text.extend_from_slice(b"\n")
+    push_numbered(before_second, second, text)
 }
 
 /// Adds that there are more sets of this weight than may be listed.
-fn push_too_many(weight: u64, most: u32, text: &mut Vec<u8>) -> Result<(), AllocError>
+fn push_too_many(
+    weight: u64,
+    most: u32,
+    line: Option<u64>,
+    text: &mut Vec<u8>,
+) -> Result<(), AllocError>
     ensures { OnOk result (text.new.items
-        ≡ text.old.items ++ text_of (Answer.TooManySets weight most)) }
+        ≡ text.old.items ++ text_of (Answer.TooManySets weight most line)) }
 {
     push_two(
         b"too many sets: weight ",
@@ -385,15 +486,17 @@ fn push_too_many(weight: u64, most: u32, text: &mut Vec<u8>) -> Result<(), Alloc
         b", more than ",
         u64::from(most),
         text,
-    )
+    )?;
+    push_behind_comma(line, text)
 }
 
 /// Adds that so many conflicts are spent.
-fn push_spent(conflicts: u64, text: &mut Vec<u8>) -> Result<(), AllocError>
+fn push_spent(conflicts: u64, line: Option<u64>, text: &mut Vec<u8>) -> Result<(), AllocError>
     ensures { OnOk result (text.new.items
-        ≡ text.old.items ++ text_of (Answer.BudgetSpent conflicts)) }
+        ≡ text.old.items ++ text_of (Answer.BudgetSpent conflicts line)) }
 {
-    push_between(b"budget spent: ", conflicts, b" conflicts\n", text)
+    push_between(b"budget spent: ", conflicts, b" conflicts", text)?;
+    push_behind_comma(line, text)
 }
 
 /// Adds the refusal of a certificate at a line.
@@ -407,7 +510,8 @@ fn push_bad_certificate(code: u8, line: u64, text: &mut Vec<u8>) -> Result<(), A
         b" at line ",
         line,
         text,
-    )
+    )?;
+    text.extend_from_slice(b"\n")
 }
 
 /// Adds what the least sets of a sample weigh, and how many they are.
@@ -421,5 +525,6 @@ fn push_sampled(
         ≡ text.old.items ++ text_of (Answer.Sampled additions weight sets)) }
 {
     push_numbered(b"sample ", u64::from(additions), text)?;
-    push_two(b": weight ", weight, b", sets ", sets, text)
+    push_two(b": weight ", weight, b", sets ", sets, text)?;
+    text.extend_from_slice(b"\n")
 }

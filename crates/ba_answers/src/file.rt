@@ -8,6 +8,8 @@ ghost use Rattle.ba_answers.specs.Limits.{limit_of};
 pub enum File {
     Program,
     Input,
+    /// The inputs of several runs, one a line.
+    Inputs,
     Weights,
     /// The certificate of a check.
     Certificate,
@@ -19,7 +21,7 @@ impl File {
         ensures { result ≡ limit_of self }
     {
         match self {
-            File::Program | File::Input | File::Weights => LIMIT,
+            File::Program | File::Input | File::Inputs | File::Weights => LIMIT,
             File::Certificate => CERTIFICATE_LIMIT,
         }
     }

@@ -23,7 +23,8 @@ impl Model for Link {
 
     ghost inverse = { λ link. record { word = word_for link } };
 
-    ghost inverse_ok = { λ link h. ap (λ word. record { word = word }) (word_for-link_in link.word) };
+    ghost inverse_ok = { λ link h.
+        ap (λ word. record { word = word }) (word_for-link_in link.word) };
 }
 
 impl Link {

@@ -22,7 +22,8 @@ impl Model for Cells {
 
     ghost view = { λ cells. cells.words.items };
 
-    ghost invariant = { λ cells. (0 < length cells.words.items) × (length cells.words.items ≤ 256) };
+    ghost invariant = { λ cells. (0 < length cells.words.items)
+        × (length cells.words.items ≤ 256) };
 }
 
 impl Cells {

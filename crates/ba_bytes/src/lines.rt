@@ -45,7 +45,8 @@ impl<'a> Lines<'a> {
 
 /// The first line of a text, and what stands behind its line feed if it has one.
 fn parted(text: &[u8]) -> (&[u8], Option<&[u8]>)
-    ensures { lines_of text.now ≡ result.0.now ∷ lines_left (option_map (λ rest. rest.now) result.1) }
+    ensures { lines_of text.now
+        ≡ result.0.now ∷ lines_left (option_map (λ rest. rest.now) result.1) }
 {
     match feed_in(text) {
         Some(place) => (&text[..place], Some(&text[place + 1..])),

@@ -49,7 +49,8 @@ pub fn clauses_of(
     requires required { All (IsBitOf nodes.now) required.now }
     requires read { All (IsBitOf nodes.now) read.now }
     ensures { IfOk result
-        (λ encoding. IsEncoding nodes.now required.now read.now encoding.formula encoding.readings) }
+        (λ encoding. IsEncoding nodes.now required.now read.now
+        encoding.formula encoding.readings) }
 {
     let nodes = nodes.as_slice();
     let uses = uses_of(alloc, nodes, required, read)?;

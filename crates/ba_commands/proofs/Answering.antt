@@ -15,10 +15,10 @@ use Rattle.clap.specs.declared.parser.matches.ValueSource.TheVariants.{DefaultVa
 use Rattle.clap.proofs.WalkLemmas.{first_value-rows, one_text-rows}
 use Rattle.ba_commands.specs.declared.commands.Command.{Command}
 use Rattle.ba_commands.specs.declared.modes.Mode.{Mode}
-use Rattle.ba_commands.specs.declared.modes.Mode.TheVariants.{Localise, Check, Run, Sample}
+use Rattle.ba_commands.specs.declared.modes.Mode.TheVariants.{Localise, Check, Run, Rank, Sample}
 use Rattle.ba_commands.specs.Modes.{Usage, Word, usage_of}
 use Rattle.ba_commands.specs.Words.{Part, are_distinct, files_in, has_bound, is_accepted, is_line, options_in, parts_of, split_words, stands}
-use Rattle.ba_commands.specs.Commands.{bounds_from, check_from, command_in, command_of_parts, command_on, command_with, file_at, localise_from, number_of, run_from, sample_from, value_in}
+use Rattle.ba_commands.specs.Commands.{bounds_from, check_from, command_in, command_of_parts, command_on, command_with, file_at, localise_from, number_of, rank_from, run_from, sample_from, value_in}
 use Rattle.ba_commands.specs.Parsing.{app_for, is_readable}
 use Rattle.ba_commands.proofs.Testing.{eq_comm, neither, not_both, same_either}
 use Rattle.ba_commands.proofs.Splitting.{IsRefused, readable_accepted, unreadable_refused}
@@ -67,6 +67,9 @@ finished-first Check name rows e = ap (first_value_of name)
     (refl, (refl, (refl, (refl, (refl, (refl, (refl, (refl, tt)))))))))
 finished-first Run name rows e =
     ap (first_value_of name) (no_defaults (rules_in (usage_of Run)) rows (refl, (refl, (refl, (refl, tt)))))
+finished-first Rank name rows e = ap (first_value_of name)
+    (no_defaults (rules_in (usage_of Rank)) rows
+    (refl, (refl, (refl, (refl, (refl, (refl, (refl, (refl, tt)))))))))
 finished-first Sample name rows e =
     ap (first_value_of name) (no_defaults (rules_in (usage_of Sample)) rows (refl, tt))
 
@@ -204,6 +207,19 @@ same_command Run parts found runs f read =
     let bound = value (codes "bound") f refl refl refl in
     let depth = value (codes "depth") f refl refl refl in
     λ i. run_from (program i) (input i) (bounds_from (bound i) (depth i))
+same_command Rank parts found runs f read =
+    let value = value-found Rank parts found in
+    let place = file-found Rank parts found in
+    let program = place (codes "PROGRAM") f refl refl refl in
+    let inputs = place (codes "INPUTS") f refl refl refl in
+    let bound = value (codes "bound") f refl refl refl in
+    let depth = value (codes "depth") f refl refl refl in
+    let weights = value (codes "weights") f refl refl refl in
+    let conflicts = value (codes "conflicts") f refl refl refl in
+    let sets = value (codes "sets") f refl refl refl in
+    let restart = value (codes "restart") f refl refl refl in
+    λ i. rank_from (program i) (inputs i) (bounds_from (bound i) (depth i)) (weights i) (conflicts i)
+    (sets i) (restart i)
 same_command Sample parts found runs f read =
     let additions = file-found Sample parts found (codes "N") f refl refl refl in
     λ i. sample_from (number_of 1 500 (additions i))
@@ -227,6 +243,11 @@ run-unbounded None b = refl
 run-unbounded (Some a) None = refl
 run-unbounded (Some a) (Some b) = refl
 
+rank-unbounded : (a b c d e f : Option Word) → rank_from a b None c d e f ≡ None
+rank-unbounded None b c d e f = refl
+rank-unbounded (Some a) None c d e f = refl
+rank-unbounded (Some a) (Some b) c d e f = refl
+
 unbounded : (mode : Mode) (place value : Word → Option Word) (runs : Bool)
     → stands (codes "bound") (usage_of mode).valued ≡ true
     → value (codes "bound") ≡ None → command_with mode place value runs ≡ None
@@ -249,6 +270,12 @@ unbounded Run place value runs has none =
     ap (λ b. run_from (place (codes "PROGRAM")) (place (codes "INPUT"))
     (bounds_from b (value (codes "depth")))) none
     ∙ run-unbounded (place (codes "PROGRAM")) (place (codes "INPUT"))
+unbounded Rank place value runs has none =
+    ap (λ b. rank_from (place (codes "PROGRAM")) (place (codes "INPUTS"))
+    (bounds_from b (value (codes "depth"))) (value (codes "weights"))
+    (value (codes "conflicts")) (value (codes "sets")) (value (codes "restart"))) none
+    ∙ rank-unbounded (place (codes "PROGRAM")) (place (codes "INPUTS")) (value (codes "weights"))
+    (value (codes "conflicts")) (value (codes "sets")) (value (codes "restart"))
 unbounded Sample place value runs has none = absurd (true≢false (sym has))
 
 too_few : (mode : Mode) (files : List Word) (value : Word → Option Word) (runs : Bool)
@@ -277,6 +304,13 @@ too_few Check (a ∷ b ∷ c ∷ d ∷ files) value runs few lacks = absurd (fou
   where
     four : (n : ℕ) → nat_le (suc (suc (suc (suc n)))) 3 ≡ true → ⊥
     four n e = grind (arith, nat_tests)
+too_few Rank [] value runs few lacks = refl
+too_few Rank (a ∷ []) value runs few lacks = refl
+too_few Rank (a ∷ b ∷ []) value runs few lacks = absurd (true≢false lacks)
+too_few Rank (a ∷ b ∷ c ∷ files) value runs few lacks = absurd (three (length files) few)
+  where
+    three : (n : ℕ) → nat_le (suc (suc (suc n))) 2 ≡ true → ⊥
+    three n e = grind (arith, nat_tests)
 too_few Sample [] value runs few lacks = refl
 too_few Sample (a ∷ []) value runs few lacks = absurd (true≢false lacks)
 too_few Sample (a ∷ b ∷ files) value runs few lacks = absurd (two (length files) few)
@@ -315,6 +349,7 @@ places_distinct : (mode : Mode) → are_distinct (usage_of mode).files ≡ true
 places_distinct Localise = refl
 places_distinct Check = refl
 places_distinct Run = refl
+places_distinct Rank = refl
 places_distinct Sample = refl
 
 valued_apart : (mode : Mode)
@@ -322,6 +357,7 @@ valued_apart : (mode : Mode)
 valued_apart Localise = refl
 valued_apart Check = refl
 valued_apart Run = refl
+valued_apart Rank = refl
 valued_apart Sample = refl
 
 plain_apart : (mode : Mode)
@@ -329,6 +365,7 @@ plain_apart : (mode : Mode)
 plain_apart Localise = refl
 plain_apart Check = refl
 plain_apart Run = refl
+plain_apart Rank = refl
 plain_apart Sample = refl
 
 same_distinct : (mode : Mode) (parts : List Part) → list_all (is_known (usage_of mode)) parts ≡ true

@@ -9,7 +9,7 @@ use Rattle.ba_commands.specs.Modes.{Usage, Word, usage_of}
 use Rattle.ba_commands.specs.Words.{option_word}
 use Rattle.ba_commands.specs.Parsing.{app_for, rule_for}
 use Rattle.ba_commands.specs.declared.modes.Mode.{Mode}
-use Rattle.ba_commands.specs.declared.modes.Mode.TheVariants.{Localise, Check, Run, Sample}
+use Rattle.ba_commands.specs.declared.modes.Mode.TheVariants.{Localise, Check, Run, Rank, Sample}
 use Rattle.ba_commands.specs.declared.parsing.Role.TheVariants.{Valued, Plain, File}
 use Rattle.ba_commands.proofs.Finishing.{defaults_pass}
 use Rattle.ba_commands.proofs.Turns.{ReadsOption, ReadsSwitch}
@@ -24,6 +24,7 @@ pub simple : (mode : Mode) → is_simple_and_free (app_for (usage_of mode)) ≡ 
 simple Localise = refl
 simple Check = refl
 simple Run = refl
+simple Rank = refl
 simple Sample = refl
 
 option_facts : {rules : List Rule} {name : Word} → bytes_eq (option_word name) (option_word []) ≡ false
@@ -100,6 +101,29 @@ fits_mode Run = record {
   plain = tt;
   places = (refl, refl, refl, (refl, refl, refl, refl));
   no_default = defaults_pass (rules_in (usage_of Run)) (refl, (refl, (refl, (refl, tt))));
+  no_check = λ rows. refl;
+}
+fits_mode Rank = record {
+  valued = (
+    option_facts refl refl (λ text. refl) (λ text. refl) refl refl,
+    (
+      option_facts refl refl (λ text. refl) (λ text. refl) refl refl,
+      (
+        option_facts refl refl (λ text. refl) (λ text. refl) refl refl,
+        (
+          option_facts refl refl (λ text. refl) (λ text. refl) refl refl,
+          (
+            option_facts refl refl (λ text. refl) (λ text. refl) refl refl,
+            (option_facts refl refl (λ text. refl) (λ text. refl) refl refl, tt),
+          ),
+        ),
+      ),
+    ),
+  );
+  plain = tt;
+  places = (refl, refl, refl, (refl, refl, refl, refl));
+  no_default = defaults_pass (rules_in (usage_of Rank))
+      (refl, (refl, (refl, (refl, (refl, (refl, (refl, (refl, tt))))))));
   no_check = λ rows. refl;
 }
 fits_mode Sample = record {

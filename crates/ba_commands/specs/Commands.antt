@@ -6,7 +6,7 @@ use Rattle.ba_tree.specs.declared.run.Bounds.{Bounds}
 use Rattle.ba_commands.specs.declared.commands.Command.{Command}
 use Rattle.ba_commands.specs.declared.commands.Command.TheVariants as command
 use Rattle.ba_commands.specs.declared.modes.Mode.{Mode}
-use Rattle.ba_commands.specs.declared.modes.Mode.TheVariants.{Localise, Check, Run, Sample}
+use Rattle.ba_commands.specs.declared.modes.Mode.TheVariants.{Localise, Check, Run, Rank, Sample}
 use Rattle.ba_commands.specs.declared.words.WordsError.{WordsError}
 use Rattle.ba_commands.specs.declared.words.WordsError.TheVariants.{Bad, Memory}
 use Rattle.ba_commands.specs.Modes.{Word, usage_of}
@@ -72,6 +72,17 @@ run_from program input bounds = do
   bounds ← bounds
   Some (command.Run program input bounds)
 
+abbrev pub rank_from : Option Word → Option Word → Option Bounds → Option Word → Option Word → Option Word →
+    Option Word → Option Command
+rank_from program inputs bounds weights conflicts sets restart = do
+  program ← program
+  inputs ← inputs
+  bounds ← bounds
+  conflicts ← number_or 200000 1 1000000 conflicts
+  sets ← number_or 1000 1 10000 sets
+  steady ← steady_in restart
+  Some (command.Rank program inputs bounds weights conflicts sets steady)
+
 abbrev pub sample_from : Option ℕ → Option Command
 sample_from additions = do
   additions ← additions
@@ -96,6 +107,12 @@ check_with name value =
 abbrev pub run_with : (Word → Option Word) → (Word → Option Word) → Option Command
 run_with name value = run_from (name (codes "PROGRAM")) (name (codes "INPUT")) (bounds_with value)
 
+abbrev pub rank_with : (Word → Option Word) → (Word → Option Word) → Option Command
+rank_with name value =
+    rank_from (name (codes "PROGRAM")) (name (codes "INPUTS")) (bounds_with value)
+    (value (codes "weights")) (value (codes "conflicts")) (value (codes "sets"))
+    (value (codes "restart"))
+
 abbrev pub sample_with : (Word → Option Word) → Option Command
 sample_with name = sample_from (number_of 1 500 (name (codes "N")))
 
@@ -103,6 +120,7 @@ abbrev pub command_with : Mode → (Word → Option Word) → (Word → Option W
 command_with Localise name value runs = localise_with name value runs
 command_with Check name value runs = check_with name value
 command_with Run name value runs = run_with name value
+command_with Rank name value runs = rank_with name value
 command_with Sample name value runs = sample_with name
 
 -- the file name in the place that has a name in the table

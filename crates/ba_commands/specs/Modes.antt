@@ -2,7 +2,7 @@
 
 use Rattle.std.specs.Prelude.{ℕ, List, [], ◌∷◌, codes}
 use Rattle.ba_commands.specs.declared.modes.Mode.{Mode}
-use Rattle.ba_commands.specs.declared.modes.Mode.TheVariants.{Localise, Check, Run, Sample}
+use Rattle.ba_commands.specs.declared.modes.Mode.TheVariants.{Localise, Check, Run, Rank, Sample}
 
 abbrev pub Word : Type 0
 Word = List ℕ
@@ -30,5 +30,11 @@ usage_of Run = record {
   valued = codes "bound" ∷ codes "depth" ∷ [];
   plain = [];
   files = codes "PROGRAM" ∷ codes "INPUT" ∷ [];
+}
+usage_of Rank = record {
+  valued = codes "bound" ∷ codes "depth" ∷ codes "weights" ∷ codes "conflicts" ∷ codes "sets"
+      ∷ codes "restart" ∷ [];
+  plain = [];
+  files = codes "PROGRAM" ∷ codes "INPUTS" ∷ [];
 }
 usage_of Sample = record { valued = []; plain = []; files = codes "N" ∷ [] }

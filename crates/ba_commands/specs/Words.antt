@@ -3,7 +3,7 @@
 use Rattle.std.specs.Prelude.{Bool, true, false, not, ◌==◌, ◌&&◌, ◌||◌, if◌then◌else◌, Option, None, Some, option_map, option_and_then, List, [], ◌∷◌, length, drop, codes, bytes_eq}
 use Rattle.std.specs.List.{flat_map, list_any}
 use Rattle.ba_commands.specs.declared.modes.Mode.{Mode}
-use Rattle.ba_commands.specs.declared.modes.Mode.TheVariants.{Localise, Check, Run, Sample}
+use Rattle.ba_commands.specs.declared.modes.Mode.TheVariants.{Localise, Check, Run, Rank, Sample}
 use Rattle.ba_commands.specs.Modes.{Usage, Word}
 
 -- OPTION WORDS: `--` and then a name of the table
@@ -32,7 +32,8 @@ mode_of word =
     if bytes_eq word (codes "localise") then Some Localise
     else (if bytes_eq word (codes "check") then Some Check
     else (if bytes_eq word (codes "run") then Some Run
-    else (if bytes_eq word (codes "sample") then Some Sample else None)))
+    else (if bytes_eq word (codes "rank") then Some Rank
+    else (if bytes_eq word (codes "sample") then Some Sample else None))))
 
 -- RULE 2. A later word that is an option with a value, then `=`, then any text, is replaced by the
 -- option and that text as two words.
@@ -86,7 +87,7 @@ files_in (option name value ∷ parts) = files_in parts
 files_in (switch name ∷ parts) = files_in parts
 files_in (file text ∷ parts) = text ∷ files_in parts
 
--- RULE 5. No option stands twice. `--bound` is there in the three first modes.
+-- RULE 5. No option stands twice. `--bound` is there in every mode that has it.
 
 abbrev pub options_in : List Part → List Word
 options_in [] = []

@@ -87,6 +87,23 @@ pub enum Command<'a> {
         /// How far the run may go.
         bounds: Bounds,
     },
+    /// Rank the statements over several inputs.
+    Rank {
+        /// The file of the program.
+        program: Text<'a>,
+        /// The file of the inputs, one a line.
+        inputs: Text<'a>,
+        /// How far a run may go.
+        bounds: Bounds,
+        /// The file of the weights, if there is one.
+        weights: Option<Text<'a>>,
+        /// How many conflicts each search may have: 1 to 1,000,000, by default 200,000.
+        conflicts: u64,
+        /// How many sets each search may list: 1 to 10,000, by default 1,000.
+        sets: u32,
+        /// Whether the searches restart steadily, and not by Luby's sequence.
+        steady: bool,
+    },
     /// Search a program made for the purpose.
     Sample {
         /// How many additions the program has: 1 to 500.

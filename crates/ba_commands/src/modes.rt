@@ -13,6 +13,8 @@ pub enum Mode {
     Check,
     /// Run the program.
     Run,
+    /// Rank the statements over several inputs.
+    Rank,
     /// Search a program made for the purpose.
     Sample,
 }
@@ -29,11 +31,15 @@ static LOCALISE_VALUED: [&str; 7] = [
 
 static CHECK_VALUED: [&str; 5] = ["bound", "depth", "weights", "conflicts", "sets"];
 
+static RANK_VALUED: [&str; 6] = ["bound", "depth", "weights", "conflicts", "sets", "restart"];
+
 static RUN_VALUED: [&str; 2] = ["bound", "depth"];
 
 static LOCALISE_PLAIN: [&str; 1] = ["runs"];
 
 static RUN_FILES: [&str; 2] = ["PROGRAM", "INPUT"];
+
+static RANK_FILES: [&str; 2] = ["PROGRAM", "INPUTS"];
 
 static CHECK_FILES: [&str; 3] = ["PROGRAM", "INPUT", "CERT"];
 
@@ -58,6 +64,8 @@ pub fn mode_of(word: &str) -> Option<Mode>
         Some(Mode::Check)
     } else if is_word(word, "run") {
         Some(Mode::Run)
+    } else if is_word(word, "rank") {
+        Some(Mode::Rank)
     } else if is_word(word, "sample") {
         Some(Mode::Sample)
     } else {
@@ -73,6 +81,7 @@ pub fn valued(mode: Mode) -> &'static [&'static str]
         Mode::Localise => LOCALISE_VALUED.as_slice(),
         Mode::Check => CHECK_VALUED.as_slice(),
         Mode::Run => RUN_VALUED.as_slice(),
+        Mode::Rank => RANK_VALUED.as_slice(),
         Mode::Sample => NO_NAMES.as_slice(),
     }
 }
@@ -83,7 +92,7 @@ pub fn plain(mode: Mode) -> &'static [&'static str]
 {
     match mode {
         Mode::Localise => LOCALISE_PLAIN.as_slice(),
-        Mode::Check | Mode::Run | Mode::Sample => NO_NAMES.as_slice(),
+        Mode::Check | Mode::Run | Mode::Rank | Mode::Sample => NO_NAMES.as_slice(),
     }
 }
 
@@ -94,6 +103,7 @@ pub fn files(mode: Mode) -> &'static [&'static str]
     match mode {
         Mode::Localise | Mode::Run => RUN_FILES.as_slice(),
         Mode::Check => CHECK_FILES.as_slice(),
+        Mode::Rank => RANK_FILES.as_slice(),
         Mode::Sample => SAMPLE_FILES.as_slice(),
     }
 }

@@ -3,7 +3,7 @@
 ghost use Rattle.std.specs.Prelude.{◌≡◌, [], false, map, codes, IfOk};
 ghost use Rattle.clap.specs.Words.{app_of, first_value, found_of, rule_of};
 ghost use Rattle.ba_commands.specs.Modes.{usage_of};
-ghost use Rattle.ba_commands.specs.Commands.{bounds_with, check_with, command_with, localise_with, number_of, number_or, run_with, sample_with, steady_in};
+ghost use Rattle.ba_commands.specs.Commands.{bounds_with, check_with, command_with, localise_with, number_of, number_or, rank_with, run_with, sample_with, steady_in};
 ghost use Rattle.ba_commands.specs.Parsing.{IsParsedBy, app_for, bare_app, refuses, rule_for, with_rules};
 
 use crate::commands::{Command, Text};
@@ -237,6 +237,27 @@ fn run<'a>(matches: &ArgMatches<'a>) -> Option<Command<'a>>
     })
 }
 
+fn rank<'a>(matches: &ArgMatches<'a>) -> Option<Command<'a>>
+    ensures { result
+        ≡ rank_with (first_value (found_of matches.now)) (first_value (found_of matches.now)) }
+{
+    let program = text_of(matches, "PROGRAM")?;
+    let inputs = text_of(matches, "INPUTS")?;
+    let bounds = bounds(matches)?;
+    let conflicts = number_or(matches, "conflicts", 200_000, 1, 1_000_000)?;
+    let sets = number_or(matches, "sets", 1000, 1, 10_000)?;
+    let steady = is_steady(matches)?;
+    Some(Command::Rank {
+        program,
+        inputs,
+        bounds,
+        weights: text_of(matches, "weights"),
+        conflicts: u64::from(conflicts),
+        sets,
+        steady,
+    })
+}
+
 fn sample<'a>(matches: &ArgMatches<'a>) -> Option<Command<'a>>
     ensures { result ≡ sample_with (first_value (found_of matches.now)) }
 {
@@ -255,6 +276,7 @@ pub fn command_in<'a>(mode: Mode, matches: &ArgMatches<'a>, runs: bool) -> Optio
         Mode::Localise => localise(matches, runs),
         Mode::Check => check(matches),
         Mode::Run => run(matches),
+        Mode::Rank => rank(matches),
         Mode::Sample => sample(matches),
     }
 }

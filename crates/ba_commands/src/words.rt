@@ -119,6 +119,8 @@ fn are_readable(mode: Mode, words: &[&str]) -> bool
 /// - `check PROGRAM INPUT CERT --bound B` and, where wanted, `--depth D`, `--weights F`, `--conflicts N`,
 ///   `--sets N`;
 /// - `run PROGRAM INPUT --bound B` and, where wanted, `--depth D`;
+/// - `rank PROGRAM INPUTS --bound B` and, where wanted, `--depth D`, `--weights F`, `--conflicts N`, `--sets N`,
+///   `--restart luby` or `--restart steady`;
 /// - `sample N`.
 ///
 /// Behind the mode, options and names of files stand in any order, and `--bound=3` is `--bound 3`. A number

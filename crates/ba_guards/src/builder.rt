@@ -114,8 +114,8 @@ impl Builder {
     #[inline(never)]
     pub fn open(&mut self, alloc: Global, which: u32) -> Result<Box<Fork>, AllocError>
         ensures fork { IfOk result
-            (λ fork. fork.value ≡ fork_at which (length self.old.written) self.new.live self.old.live
-            self.old.vars) }
+            (λ fork. fork.value ≡ fork_at which (length self.old.written)
+            self.new.live self.old.live self.old.vars) }
         ensures opens { IfOk result (λ fork. (d : Declared) → Fits d self.old
             → which < length self.old.words
             → Opens self.old self.new which) }
@@ -189,8 +189,8 @@ impl Builder {
             → AreSides self.old.words sides.value
             → AgreeBut sides.value.written sides.value.before sides.value.after.vars
             → AgreeBut (drop sides.value.since self.old.written) sides.value.before self.old.vars
-            → Joins sides.value.since sides.value.before sides.value.after.live sides.value.after.vars
-            self.old self.new) }
+            → Joins sides.value.since sides.value.before
+            sides.value.after.live sides.value.after.vars self.old self.new) }
     {
         let sides = Box::into_inner(sides);
         let numbers = self.written.since(alloc, sides.since, &sides.written)?;

@@ -15,7 +15,7 @@ use std::marker::Model;
 use std::rc::Rc;
 
 /// How many variables have their words in one chunk.
-const CHUNK: usize = 32;
+const CHUNK: usize = 128;
 
 /// A word for each variable. A copy shares the chunks of words, and a write copies its chunk alone.
 /// Contracts see the list of words.
@@ -34,7 +34,7 @@ impl Model for Variables {
 
     ghost view = { λ variables. concat (map rc_value variables.chunks.items) };
 
-    ghost invariant = { λ variables. AreChunks 32 (map rc_value variables.chunks.items) };
+    ghost invariant = { λ variables. AreChunks 128 (map rc_value variables.chunks.items) };
 }
 
 impl Variables {
@@ -130,7 +130,7 @@ impl Variables {
 
 /// So many full chunks of word 0, which are one.
 fn full_chunks(alloc: Global, count: usize) -> Result<Vec<Rc<Names>>, AllocError>
-    ensures { IfOk result (λ chunks. map rc_value chunks.items ≡ replicate count (replicate 32 0)) }
+    ensures { IfOk result (λ chunks. map rc_value chunks.items ≡ replicate count (replicate 128 0)) }
 {
     let zeros = Names::zeros(alloc, CHUNK)?;
     let zeros = Rc::new(alloc, zeros)?;
@@ -144,7 +144,7 @@ fn full_chunks(alloc: Global, count: usize) -> Result<Vec<Rc<Names>>, AllocError
 
 /// The word of this number in chunks, and word 0 where there is none.
 fn word_at(chunks: &[Rc<Names>], number: usize) -> u32
-    ensures { AreChunks 32 (map rc_value chunks.now)
+    ensures { AreChunks 128 (map rc_value chunks.now)
         → result ≡ slice_index_or (concat (map rc_value chunks.now)) number 0 }
 {
     let index = number / CHUNK;
@@ -162,11 +162,11 @@ fn set_word(
     number: usize,
     word: u32,
 ) -> Result<(), AllocError>
-    ensures set { OnOk result (AreChunks 32 (map rc_value chunks.old)
+    ensures set { OnOk result (AreChunks 128 (map rc_value chunks.old)
         → concat (map rc_value chunks.new)
         ≡ slice_set (concat (map rc_value chunks.old)) number word) }
-    ensures shape { AreChunks 32 (map rc_value chunks.old)
-        → AreChunks 32 (map rc_value chunks.new) }
+    ensures shape { AreChunks 128 (map rc_value chunks.old)
+        → AreChunks 128 (map rc_value chunks.new) }
 {
     let index = number / CHUNK;
     if index < chunks.len() {

@@ -210,6 +210,10 @@ pub record SortsLiterals (old new : List Literal) : Type 0 where
 abbrev pub IsMinimisedFrom : State → Work → ℕ → Type 0
 IsMinimisedFrom s w index = (k : ℕ) → index ≤ k → k < length w.kept → IsRedundant s w (get_or w.kept k 0) → ⊥
 
+-- a number stands behind an index of a list
+abbrev pub StandsBehind : List ℕ → ℕ → ℕ → Type 0
+StandsBehind xs index x = (j : ℕ) × (index < j) × (j < length xs) × (x ≡ get_or xs j 0)
+
 -- the same from one index less on
 abbrev pub MinimisesAt : State → Work → Work → ℕ → Type 0
 MinimisesAt s old new index = old.deep ≡ false → IsMinimisedFrom s old (index + 1) →

@@ -1,10 +1,11 @@
 //! Resolution along the trail.
 
 ghost use Rattle.std.specs.Prelude.{◌≡◌, ℕ, ◌+◌, ◌^◌, ◌<◌, ◌≤◌, [], ◌∷◌, ◌++◌, None, true, false, IfOk, OnOk, IsSome, IsTrue, ◌↔◌, length, map, get_or, All};
+ghost use Rattle.std.specs.List.{swap_remove};
 ghost use Rattle.ba_lits.specs.Literals.{lit_at};
 ghost use Rattle.ba_watch.specs.Trails.{place_of, decided, level_at};
 ghost use Rattle.ba_watch.specs.Propagation.{clause_in, lits_in};
-ghost use Rattle.ba_learn.specs.Resolving.{Work, IsWork, is_seen, is_above, count_below, MayKeep, AreBelow, AreSeen, MayMeet, MayStart, Parts, Meets, with_resolved, MayResolve, reason_of_place, MustResolve, IsAbsorbed, AreAbsorbed, IsRedundant, IsMinimised, MinimisesAt, Resolves, KeepsWork, IsStart, number_in, number_at, negated_at, SortsNumbers, SortsLiterals};
+ghost use Rattle.ba_learn.specs.Resolving.{Work, IsWork, is_seen, is_above, count_below, MayKeep, AreBelow, AreSeen, MayMeet, MayStart, Parts, Meets, with_resolved, MayResolve, reason_of_place, MustResolve, IsAbsorbed, AreAbsorbed, IsRedundant, IsMinimised, MinimisesAt, StandsBehind, Resolves, KeepsWork, IsStart, number_in, number_at, negated_at, SortsNumbers, SortsLiterals};
 
 use ba_arena::ClauseRef;
 use ba_lits::{Lit, Marks};
@@ -187,6 +188,13 @@ impl Resolution {
         place
     }
 
+    /// Puts a place behind those that were resolved.
+    fn push_resolved(&mut self, place: usize) -> Result<(), AllocError>
+        ensures { OnOk result (self.new ≡ with_resolved self.old place) }
+    {
+        Ok(self.resolved.push(place)?)
+    }
+
     /// Resolves the latest pending literal, where there are others.
     fn resolve_pending(&mut self, watch: &Watch, place: usize) -> Result<(), AllocError>
         requires work { IsWork watch.now (place + 1) self.old }
@@ -203,8 +211,7 @@ impl Resolution {
         let reason = reason_at(watch, place);
         self.meet_all(watch, reason)?;
         self.pending -= 1;
-        self.resolved.push(place)?;
-        Ok(())
+        self.push_resolved(place)
     }
 
     /// Walks down the trail from its end, resolving pending literals until one is left: the first unique implication
@@ -238,7 +245,7 @@ impl Resolution {
     {
         watch.keeps_facts();
         let reason = reason_at(watch, place);
-        self.resolved.push(place)?;
+        self.push_resolved(place)?;
         self.meet_all(watch, reason)
     }
 
@@ -285,6 +292,18 @@ impl Resolution {
         true
     }
 
+    /// Takes one of the kept places out. Those that come to stand from it on stood behind it.
+    fn drop_kept(&mut self, index: usize)
+        requires { index < length self.old.kept }
+        ensures drops { self.new ≡ record self.old {
+          kept = swap_remove self.old.kept index (get_or self.old.kept index 0);
+        } }
+        ensures behind { (k : ℕ) → index ≤ k → k < length self.new.kept
+            → StandsBehind self.old.kept index (get_or self.new.kept k 0) }
+    {
+        self.kept.swap_remove(index);
+    }
+
     /// Resolves one of the kept literals, if the others imply its negation.
     fn minimise_at(&mut self, watch: &Watch, index: usize) -> Result<(), AllocError>
         requires work { (high : ℕ) × IsWork watch.now high self.old }
@@ -300,7 +319,7 @@ impl Resolution {
         if !self.is_redundant(watch, place) {
             return Ok(());
         }
-        self.kept.swap_remove(index);
+        self.drop_kept(index);
         self.resolve(watch, place)
     }
 

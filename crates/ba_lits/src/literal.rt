@@ -28,7 +28,8 @@ impl Model for Lit {
 
     ghost inverse = { λ lit. record { code = index_of lit } };
 
-    ghost inverse_ok = { λ lit h. ap (λ code. record { code = code }) (index_of-literal_at lit.code) };
+    ghost inverse_ok = { λ lit h.
+        ap (λ code. record { code = code }) (index_of-literal_at lit.code) };
 }
 
 impl Lit {

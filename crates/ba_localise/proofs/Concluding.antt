@@ -10,7 +10,8 @@ use Rattle.ba_derivations.specs.declared.verdict.Verdict.{Verdict}
 use Rattle.ba_derivations.specs.declared.verdict.Verdict.TheVariants.{Located, NoRepair, TooMany, Spent}
 use Rattle.ba_enum.specs.Enumerating.{Enumerates, HaveSame, Says}
 use Rattle.ba_enum.specs.Leading.{LeavesBetween}
-use Rattle.ba_localise.specs.Verdicts.{AreLocated, Finds, IsVerdict, LeavesDerivation, leaves_steps, problem_of}
+use Rattle.ba_derivations.specs.Handing.{problem_of}
+use Rattle.ba_localise.specs.Verdicts.{AreLocated, Finds, IsVerdict, LeavesDerivation, leaves_steps}
 use Rattle.ba_steps.specs.Sinks.{Logs, Rose, Told, with_told}
 use Rattle.ba_steps.specs.declared.sink.Basis.{Basis}
 use Rattle.ba_steps.specs.declared.step.CertStep.{CertStep}

@@ -1,1 +1,3 @@
 pub mod Concluding
+pub mod OneVerdict
+pub mod Counting

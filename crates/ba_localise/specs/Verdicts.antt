@@ -1,8 +1,9 @@
 -- What a search for the least sets of a program comes to, and what it hands to a sink of steps.
 
 use Rattle.std.specs.Prelude.{◌≡◌, ◌≢◌, ℕ, ◌≤◌, List, [], All, Contains, length}
-use Rattle.ba_derivations.specs.Derivations.{AreTooMany, IsGood, Problem, conflicts_in, sets_of, start_of}
+use Rattle.ba_derivations.specs.Derivations.{AreTooMany, IsGood, conflicts_in, sets_of, start_of}
 use Rattle.ba_derivations.specs.Encodings.{IsFaithful}
+use Rattle.ba_derivations.specs.Handing.{Derivation, Hands, problem_of}
 use Rattle.ba_derivations.specs.declared.verdict.FoundSet.{FoundSet}
 use Rattle.ba_derivations.specs.declared.verdict.Verdict.{Verdict}
 use Rattle.ba_derivations.specs.declared.verdict.Verdict.TheVariants.{Located, NoRepair, TooMany, Spent}
@@ -11,31 +12,9 @@ use Rattle.ba_enum.specs.Leading.{AreNew, LeavesBetween}
 use Rattle.ba_steps.specs.Sinks.{MayAdd, Told, with_told}
 use Rattle.ba_steps.specs.declared.sink.Basis.{Basis}
 use Rattle.ba_steps.specs.declared.step.CertStep.{CertStep}
-use Rattle.ba_checker.specs.Puts.{with_steps}
 use Rattle.ba_checker.specs.States.{State, first_state}
 use Rattle.ba_tree.specs.Least.{AreLeast, WeightList, weight_of}
 use Rattle.ba_choices.specs.Judges.{Judge}
-
--- A DERIVATION: a formula with its soft literals, and steps over it
-pub record Derivation : Type 0 where
-  pub begun : Basis
-  pub steps : List CertStep
-
--- it was handed to a sink: the formula was begun, and each log has the steps more
-pub record Hands (d : Derivation) (old new : Told) : Type 0 where
-  pub over : new.over ≡ with_told d.begun old.over
-  pub logs : new.logs ≡ with_steps d.steps old.logs
-
--- the problem that it is about, where runs are good as a judge says, and so many conflicts and sets are
--- allowed
-abbrev pub problem_of : Derivation → Judge → ℕ → ℕ → Problem
-problem_of d good conflicts most = record {
-  formula = d.begun.formula;
-  softs = d.begun.softs;
-  good = good;
-  conflicts = conflicts;
-  most_sets = most;
-}
 
 -- these are all least sets, each once and in order, of this weight, with good runs, and no more than may be
 -- listed

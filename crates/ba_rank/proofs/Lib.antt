@@ -1,3 +1,3 @@
 mod Counting
-mod Ordering
+pub mod Ordering
 mod Ranks

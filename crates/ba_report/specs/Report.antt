@@ -28,18 +28,24 @@ kind_word Return = codes "return"
 kind_word Call = codes "call"
 kind_word Assert = codes "assert"
 
--- THE LINES of a report are written over the lines of the source.
+-- THE PARTS of a line that tell of a statement: `L:K KIND`, and ` | TEXT`, where TEXT is the source line without
+-- blanks at both ends
 
--- that of a statement: `  L:K KIND | TEXT`, where TEXT is the source line without blanks at both ends
 abbrev pub place_text : StmtInfo → List ℕ
-place_text info = codes "  " ++ decimal info.at.line ++ codes ":" ++ decimal info.at.column
+place_text info =
+    decimal info.at.line ++ codes ":" ++ decimal info.at.column ++ codes " " ++ kind_word info.kind
 
 abbrev pub source_text : List ℕ → List ℕ
 source_text line = codes " | " ++ trimmed line ++ codes "\n"
 
+abbrev pub statement_text : List (List ℕ) → StmtInfo → List ℕ
+statement_text lines info = place_text info ++ source_text (line_at lines info.at.line)
+
+-- THE LINES of a report are written over the lines of the source.
+
+-- that of a statement: `  L:K KIND | TEXT`
 abbrev pub info_line : List (List ℕ) → StmtInfo → List ℕ
-info_line lines info =
-    place_text info ++ codes " " ++ kind_word info.kind ++ source_text (line_at lines info.at.line)
+info_line lines info = codes "  " ++ statement_text lines info
 
 -- that of the statement of this number; a number that is no statement's has none
 abbrev pub line_of : List (List ℕ) → Option StmtInfo → List ℕ

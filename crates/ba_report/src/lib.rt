@@ -6,5 +6,8 @@
 
 mod lines;
 mod listing;
+mod statements;
 
+pub use lines::Lines;
 pub use listing::report;
+pub use statements::{info_of, push_place, push_source};

@@ -11,7 +11,7 @@ use std::marker::Model;
 
 /// The lines of a text, each without its line feed. Contracts see their list.
 #[derive(Drop)]
-pub(crate) struct Lines<'a> {
+pub struct Lines<'a> {
     lines: Vec<&'a [u8]>,
 }
 
@@ -28,7 +28,7 @@ impl<'a> Lines<'a> {
     /// a line too.
     ///
     /// The one error is want of memory.
-    pub(crate) fn new(alloc: Global, text: &'a [u8]) -> Result<Lines<'a>, AllocError>
+    pub fn new(alloc: Global, text: &'a [u8]) -> Result<Lines<'a>, AllocError>
         ensures { IfOk result (λ lines. lines ≡ lines_of text.now) }
     {
         let lines = text.split(|byte| is_line_end(*byte)).collect(alloc)?;
@@ -36,7 +36,7 @@ impl<'a> Lines<'a> {
     }
 
     /// A line, counted from 1; nothing where there is no such line.
-    pub(crate) fn at(&self, number: u32) -> &'a [u8]
+    pub fn at(&self, number: u32) -> &'a [u8]
         ensures { result.now ≡ line_at self.now number }
     {
         let count = number as usize;

@@ -3,60 +3,17 @@
 ghost use Rattle.std.specs.Prelude.{◌≡◌, ◌++◌, ℕ, List, true, All, flat_map, IfOk, OnOk};
 ghost use Rattle.ba_derivations.specs.Derivations.{IsGood, sets_of};
 ghost use Rattle.ba_derivations.specs.declared.verdict.FoundSet.{FoundSet};
-ghost use Rattle.ba_report.specs.Report.{IsLocated, Reports, info_line, kind_word, located_text, place_text};
-ghost use Rattle.ba_report.specs.Report.{report_text, run_line, set_lines, sets_lines, source_text, statement_line};
-ghost use Rattle.ba_tree.specs.Choices.{info_of};
+ghost use Rattle.ba_report.specs.Report.{IsLocated, Reports, info_line, located_text};
+ghost use Rattle.ba_report.specs.Report.{report_text, run_line, set_lines, sets_lines, statement_line};
 ghost use Rattle.ba_choices.specs.Judges.{Judge};
-ghost use Rattle.ba_tree.specs.Least.{stmt_of};
 
-use crate::lines::{Lines, trimmed};
+use crate::lines::Lines;
+use crate::statements::{info_of, push_place, push_source};
 use ba_choices::Choice;
 use ba_derivations::{FoundSet, Verdict};
 use ba_text::{push_choices, push_number};
-use ba_tree::tree::{Program, StmtInfo, StmtKind};
+use ba_tree::tree::{Program, StmtInfo};
 use std::alloc::{AllocError, Global};
-
-fn kind_word(kind: StmtKind) -> &'static [u8]
-    ensures { result.now ≡ kind_word kind }
-{
-    match kind {
-        StmtKind::Initialiser => b"initialiser",
-        StmtKind::Assignment => b"assignment",
-        StmtKind::Store => b"store",
-        StmtKind::Condition => b"condition",
-        StmtKind::Switch => b"switch",
-        StmtKind::Return => b"return",
-        StmtKind::Call => b"call",
-        StmtKind::Assert => b"assert",
-    }
-}
-
-/// What the program says of a statement, counted from 1.
-fn info_of(program: &Program, number: u32) -> Option<StmtInfo>
-    ensures { result ≡ info_of program.now (stmt_of number) }
-{
-    let place = number.checked_sub(1)?;
-    program.statements.as_slice().get(place as usize).copied()
-}
-
-/// Adds the position of a statement.
-fn push_place(info: StmtInfo, text: &mut Vec<u8>) -> Result<(), AllocError>
-    ensures { OnOk result (text.new.items ≡ text.old.items ++ place_text info) }
-{
-    text.extend_from_slice(b"  ")?;
-    push_number(u64::from(info.at.line), text)?;
-    text.extend_from_slice(b":")?;
-    push_number(u64::from(info.at.column), text)
-}
-
-/// Adds a source line without blanks at both ends.
-fn push_source(line: &[u8], text: &mut Vec<u8>) -> Result<(), AllocError>
-    ensures { OnOk result (text.new.items ≡ text.old.items ++ source_text line.now) }
-{
-    text.extend_from_slice(b" | ")?;
-    text.extend_from_slice(trimmed(line))?;
-    text.extend_from_slice(b"\n")
-}
 
 /// What the lines of a report are written from: the lines of the source and the program that they
 /// spell, and whether each set has a line for its run.
@@ -72,9 +29,8 @@ impl Listing<'_> {
     fn push_info(&self, info: StmtInfo, text: &mut Vec<u8>) -> Result<(), AllocError>
         ensures { OnOk result (text.new.items ≡ text.old.items ++ info_line self.now.lines info) }
     {
+        text.extend_from_slice(b"  ")?;
         push_place(info, text)?;
-        text.extend_from_slice(b" ")?;
-        text.extend_from_slice(kind_word(info.kind))?;
         push_source(self.lines.at(info.at.line), text)
     }
 

@@ -2,7 +2,7 @@
 use Rattle.std.proofs.Common.{◌≡◌, zero, suc, ℕ, ◌+◌, ◌≤◌, Option, None, Ok, List, [], ◌∷◌, ◌++◌, length, codes, decimal, refl, ◌∙◌, ap, append_assoc, arith}
 use Rattle.std.specs.Prelude.{slice_get}
 use Rattle.std.specs.List.{repeat}
-use Rattle.ba_jobs.specs.Samples.{sample_text}
+use Rattle.ba_samples.specs.Text.{sample_text}
 use Rattle.ba_lex.specs.Constants.{number_kind}
 use Rattle.ba_lex.specs.Lines.{Reading, answer, lines_of, max_tokens, only_tokens, or_too_many, reading, sequence, tokens_of}
 use Rattle.ba_lex.specs.Pieces.{cut, first_piece}

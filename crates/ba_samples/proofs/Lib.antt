@@ -1,3 +1,4 @@
+pub mod Sampling
 pub mod Values
 pub mod Statements
 pub mod Runs

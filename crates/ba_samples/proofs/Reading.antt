@@ -2,7 +2,7 @@
 use Rattle.std.proofs.Common.{◌≡◌, ℕ, ◌≤◌, Ok, List, [], sym, ◌∙◌, ap, subst}
 use Rattle.std.specs.Prelude.{Result}
 use Rattle.std.proofs.lemmas.Option.{same_Some}
-use Rattle.ba_jobs.specs.Samples.{sample_text}
+use Rattle.ba_samples.specs.Text.{sample_text}
 use Rattle.ba_lex.specs.declared.error.LexError.{LexError}
 use Rattle.ba_parse.proofs.OneTree.{one_tree}
 use Rattle.ba_parse.specs.Files.{IsParsed}

@@ -1,10 +1,11 @@
-//! Laws of samples: what program the text of a sample spells, and which sets of its statements could repair it.
+//! Samples: programs of any size to try the tool on, and their laws: what program the text of a sample spells, and
+//! which sets of its statements could repair it.
 //!
-//! Each is a function whose clause is the law, and which does nothing.
+//! Each law is a function whose clause it is, and which does nothing.
 #![tactic(auto)]
 
 ghost use Rattle.std.specs.Prelude.{◌≡◌, ℕ, ◌+◌, ◌*◌, ◌≤◌, List, Contains};
-ghost use Rattle.ba_jobs.specs.Samples.{sample_text};
+ghost use Rattle.ba_samples.specs.Text.{sample_text};
 ghost use Rattle.ba_tree.specs.Least.{AreLeast, judge_of, stmt_of, unit_weights, weight_of};
 ghost use Rattle.ba_tree.specs.Run.{plain_run};
 ghost use Rattle.ba_tree.specs.Trees.{tree_of};
@@ -16,6 +17,10 @@ ghost use Rattle.ba_tree.specs.declared.tree.Program.{Program};
 ghost use Rattle.ba_tree_laws.specs.Spelling.{Spells};
 ghost use Rattle.ba_samples.specs.Reading.{IsReadAs};
 ghost use Rattle.ba_samples.specs.Sample.{most_additions, sample_sets, sample_tree};
+
+mod text;
+
+pub use text::sample_text;
 
 /// The text of a sample is read without a fault, and spells no program but that of the sample.
 pub fn sample_text_is_read()

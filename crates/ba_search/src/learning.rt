@@ -36,7 +36,8 @@ impl Engine {
         requires conflict { IsConflict self.old.watch conflict }
         requires level { 1 ≤ decided self.old.watch.reasons }
         requires left { (L.log log.old).checker.conflicts < (L.log log.old).checker.budget }
-        ensures less { OnOk result (left_in self.new (L.log log.new) < left_in self.old (L.log log.old)) }
+        ensures less { OnOk result
+            (left_in self.new (L.log log.new) < left_in self.old (L.log log.old)) }
         ensures goes_on { OnOk result (GoesOn nothing assumptions.now
             (L.log log.old) (L.log log.new) self.old self.new) }
         ensures ran { Ran result (L.log log.old) (L.log log.new) }

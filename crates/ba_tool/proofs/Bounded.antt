@@ -1,22 +1,19 @@
--- The bounds and the conflicts that words name are within their limits, and a check has a certificate.
+-- What words ask for may be done: the bounds and the conflicts that they name are within their limits.
 
-use Rattle.std.proofs.Common.{◌≡◌, ℕ, nat_le, Bool, true, false, ◌&&◌, if◌then◌else◌, Option, None, Some, option_and_then, IfSome, IsSome, is_some, List, [], ◌∷◌, codes, ◌<◌, ◌≤◌, ◌^◌, refl, ap, sym, subst, ◌∙◌, arith}
+use Rattle.std.proofs.Common.{◌≡◌, ℕ, nat_le, Bool, true, false, ◌&&◌, if◌then◌else◌, Option, None, Some, option_and_then, IfSome, List, [], ◌∷◌, codes, ◌<◌, ◌≤◌, ◌^◌, refl, arith}
 use Rattle.std.proofs.lemmas.Bool.Decides.{nat_tests}
 use Rattle.std.specs.List.{list_all}
 use Rattle.ba_tree.specs.Run.{are_bounds}
 use Rattle.ba_tree.specs.declared.run.Bounds.{Bounds}
-use Rattle.ba_commands.specs.Commands.{bounds_from, bounds_with, check_from, file_at, value_in, command_in, command_of, command_of_parts, command_on, command_with, localise_from, number_of, number_or, run_from, sample_from, steady_in}
+use Rattle.ba_commands.specs.Commands.{bounds_from, bounds_with, check_from, file_at, value_in, command_in, command_of, command_of_parts, command_on, command_with, localise_from, number_of, number_or, rank_from, run_from, sample_from, steady_in}
 use Rattle.ba_commands.specs.Modes.{Word, usage_of}
 use Rattle.ba_bytes.specs.Numbers.{number_in}
 use Rattle.ba_commands.specs.Words.{Part, files_in, is_accepted, is_line, mode_of, options_in, parts_of, split_words, stands}
 use Rattle.ba_commands.specs.declared.commands.Command.{Command}
 use Rattle.ba_commands.specs.declared.commands.Command.TheVariants as command
 use Rattle.ba_commands.specs.declared.modes.Mode.{Mode}
-use Rattle.ba_commands.specs.declared.modes.Mode.TheVariants.{Localise, Check, Run, Sample}
-use Rattle.ba_jobs.specs.Jobs.{request_by, request_of, sample_job}
-use Rattle.ba_jobs.specs.declared.jobs.Job.{Job}
-use Rattle.ba_jobs.specs.declared.jobs.Request.TheVariants as request
-use Rattle.ba_jobs.specs.declared.jobs.Task.TheVariants as task
+use Rattle.ba_commands.specs.declared.modes.Mode.TheVariants.{Localise, Check, Run, Rank, Sample}
+use Rattle.ba_tool.specs.Requests.{MayBeDone, request_by, request_of}
 
 -- NUMBERS of a range
 
@@ -34,7 +31,8 @@ AreWithin b = are_bounds b ≡ true
 abbrev IsWithin : Command → Type 0
 IsWithin (command.Localise program input bounds weights conflicts sets cert runs steady) =
     AreWithin bounds × (conflicts < 2 ^ 62)
-IsWithin (command.Check program input cert bounds weights conflicts sets) =
+IsWithin (command.Check program input cert bounds weights conflicts sets) = AreWithin bounds
+IsWithin (command.Rank program inputs bounds weights conflicts sets steady) =
     AreWithin bounds × (conflicts < 2 ^ 62)
 IsWithin (command.Run program input bounds) = AreWithin bounds
 IsWithin (command.Sample additions) = IsFrom 1 500 additions
@@ -114,13 +112,24 @@ check_within program input cert bounds weights conflicts sets within =
     (λ k. then_if AreWithin IsWithin bounds _ within
     (λ b ok. then_if (IsFrom 1 1000000) IsWithin (number_or 200000 1 1000000 conflicts) _
     (number_or-range 200000 1 1000000 conflicts refl)
-    (λ c few. then_any IsWithin (number_or 1000 1 10000 sets) _ (λ s. (ok, countable c few)))))))
+    (λ c few. then_any IsWithin (number_or 1000 1 10000 sets) _ (λ s. ok))))))
 
 run_within : (program input : Option Word) (bounds : Option Bounds) → IfSome bounds AreWithin
     → IfWithin (run_from program input bounds)
 run_within program input bounds within =
     then_any IsWithin program _ (λ p. then_any IsWithin input _
     (λ i. then_if AreWithin IsWithin bounds _ within (λ b ok. ok)))
+
+rank_within : (program inputs : Option Word) (bounds : Option Bounds)
+    (weights conflicts sets restart : Option Word) → IfSome bounds AreWithin
+    → IfWithin (rank_from program inputs bounds weights conflicts sets restart)
+rank_within program inputs bounds weights conflicts sets restart within =
+    then_any IsWithin program _ (λ p. then_any IsWithin inputs _
+    (λ i. then_if AreWithin IsWithin bounds _ within
+    (λ b ok. then_if (IsFrom 1 1000000) IsWithin (number_or 200000 1 1000000 conflicts) _
+    (number_or-range 200000 1 1000000 conflicts refl)
+    (λ c few. then_any IsWithin (number_or 1000 1 10000 sets) _
+    (λ s. then_any IsWithin (steady_in restart) _ (λ r. (ok, countable c few)))))))
 
 sample_within : (additions : Option ℕ) → IfSome additions (IsFrom 1 500) → IfWithin (sample_from additions)
 sample_within additions within = then_if (IsFrom 1 500) IsWithin additions _ within (λ n few. few)
@@ -138,6 +147,10 @@ with_within Check name value runs =
     (bounds_within (value (codes "bound")) (value (codes "depth")))
 with_within Run name value runs =
     run_within (name (codes "PROGRAM")) (name (codes "INPUT")) (bounds_with value)
+    (bounds_within (value (codes "bound")) (value (codes "depth")))
+with_within Rank name value runs =
+    rank_within (name (codes "PROGRAM")) (name (codes "INPUTS")) (bounds_with value) (value (codes "weights"))
+    (value (codes "conflicts")) (value (codes "sets")) (value (codes "restart"))
     (bounds_within (value (codes "bound")) (value (codes "depth")))
 with_within Sample name value runs = sample_within (number_of 1 500 (name (codes "N")))
     (number_of-range 1 500 (name (codes "N")))
@@ -159,71 +172,21 @@ command_within [] = tt
 command_within (word ∷ words) =
     then_any IsWithin (mode_of word) _ (λ mode. in_within mode (split_words (usage_of mode) words))
 
--- JOBS
-
-wanted_within : (o : Option Command) (j : Job) → IfWithin o → request_by o ≡ request.Wanted j →
-    AreWithin j.bounds × (j.conflicts < 2 ^ 62)
-wanted_within None j within is = absurd (let no : ⊥ = cc in no)
-wanted_within (Some (command.Localise program input bounds weights conflicts sets cert runs steady)) j
-    within is =
-    let same : bounds ≡ j.bounds = cc in let count : conflicts ≡ j.conflicts = cc in
-    (ap are_bounds (sym same) ∙ within.0, subst (λ n. n < 2 ^ 62) count within.1)
-wanted_within (Some (command.Check program input cert bounds weights conflicts sets)) j within is =
-    let same : bounds ≡ j.bounds = cc in let count : conflicts ≡ j.conflicts = cc in
-    (ap are_bounds (sym same) ∙ within.0, subst (λ n. n < 2 ^ 62) count within.1)
-wanted_within (Some (command.Run program input bounds)) j within is =
-    let same : bounds ≡ j.bounds = cc in let none : 0 ≡ j.conflicts = cc in
-    (ap are_bounds (sym same) ∙ within, omega (arith, none))
-wanted_within (Some (command.Sample additions)) j within is = absurd (let no : ⊥ = cc in no)
-
--- the bounds of a job are within their limits
-pub job_bounds : (words : List Word) (j : Job) → request_of words ≡ request.Wanted j →
-    are_bounds j.bounds ≡ true
-job_bounds words j is = (wanted_within (command_of words) j (command_within words) is).0
-
--- and so are its conflicts
-pub job_countable : (words : List Word) (j : Job) → request_of words ≡ request.Wanted j → j.conflicts < 2 ^ 62
-job_countable words j is = (wanted_within (command_of words) j (command_within words) is).1
-
--- a job that checks names its certificate
-wanted_named : (o : Option Command) (j : Job) → request_by o ≡ request.Wanted j → j.task ≡ task.Check
-    → IsSome j.cert
-wanted_named None j is checks = absurd (let no : ⊥ = cc in no)
-wanted_named (Some (command.Localise program input bounds weights conflicts sets cert runs steady)) j is
-    checks = let same : task.Localise ≡ j.task = cc in let no : ⊥ = cc in absurd no
-wanted_named (Some (command.Check program input cert bounds weights conflicts sets)) j is checks =
-    let same : Some cert ≡ j.cert = cc in ap is_some (sym same)
-wanted_named (Some (command.Run program input bounds)) j is checks =
-    let same : task.Run ≡ j.task = cc in let no : ⊥ = cc in absurd no
-wanted_named (Some (command.Sample additions)) j is checks = absurd (let no : ⊥ = cc in no)
-
-pub job_named : (words : List Word) (j : Job) → request_of words ≡ request.Wanted j → j.task ≡ task.Check
-    → IsSome j.cert
-job_named words j is checks = wanted_named (command_of words) j is checks
-
--- a sample checks none
-pub sample_named : (j : Job) (additions : ℕ) → j ≡ sample_job additions → j.task ≡ task.Check → IsSome j.cert
-sample_named j additions is checks =
-    let same : j.task ≡ task.Sample additions = ap (λ (j : Job). j.task) is in
-    let no : ⊥ = cc in absurd no
-
--- and a sample has no more additions than it may have
-sampled_within : (o : Option Command) (additions : ℕ) → IfWithin o → request_by o ≡ request.Sample additions →
-    IsFrom 1 500 additions
-sampled_within None additions within is = absurd (let no : ⊥ = cc in no)
-sampled_within (Some (command.Localise program input bounds weights conflicts sets cert runs steady))
-    additions
-    within is = absurd (let no : ⊥ = cc in no)
-sampled_within (Some (command.Check program input cert bounds weights conflicts sets)) additions within is =
-    absurd (let no : ⊥ = cc in no)
-sampled_within (Some (command.Run program input bounds)) additions within is = absurd (let no : ⊥ = cc in no)
-sampled_within (Some (command.Sample n)) additions within is =
-    let same : n ≡ additions = cc in subst (IsFrom 1 500) same within
+-- REQUESTS
 
 few_of : (n : ℕ) → IsFrom 1 500 n → n ≤ 500
 few_of n h = grind (arith, nat_tests, h)
 
-pub sample_few : (words : List Word) (additions : ℕ) → request_of words ≡ request.Sample additions →
-    additions ≤ 500
-sample_few words additions is =
-    few_of additions (sampled_within (command_of words) additions (command_within words) is)
+request_within : (o : Option Command) → IfWithin o → MayBeDone (request_by o)
+request_within None within = tt
+request_within (Some (command.Localise program input bounds weights conflicts sets cert runs steady)) within =
+    record { countable = within.1; bounds = within.0 }
+request_within (Some (command.Check program input cert bounds weights conflicts sets)) within = within
+request_within (Some (command.Run program input bounds)) within = within
+request_within (Some (command.Rank program inputs bounds weights conflicts sets steady)) within =
+    record { countable = within.1; bounds = within.0 }
+request_within (Some (command.Sample additions)) within = few_of additions within
+
+-- what words ask for may be done
+pub may_be_done : (words : List Word) → MayBeDone (request_of words)
+may_be_done words = request_within (command_of words) (command_within words)

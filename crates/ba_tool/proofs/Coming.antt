@@ -1,227 +1,197 @@
--- What a job comes to, from what its files come to.
+-- Where a request ends, by where its reading or its mode ends.
 
-use Rattle.ba_steps.specs.Sinks.{Told}
-use Rattle.std.proofs.Common.{◌≡◌, ℕ, true, Option, None, Some, refl, subst}
-use Rattle.ba_cert.specs.declared.head.CertHead.{CertHead}
-use Rattle.ba_commands.specs.Modes.{Word}
-use Rattle.ba_localise.specs.Verdicts.{Derivation}
-use Rattle.ba_world.specs.World.{OnlyReads, Outside}
-use Rattle.ba_world.specs.declared.read.ReadFileError.{ReadFileError}
-use Rattle.ba_world.specs.declared.read.ReadFileError.TheVariants as read
-use Rattle.ba_world.proofs.WholeReads.{only_reads_none, only_reads_on}
-use Rattle.ba_tool.specs.Answers.{Checks, IsAnswer}
-use Rattle.ba_jobs.specs.Files.{AreRead, StopsAt}
-use Rattle.ba_tool.specs.Calls.{Certifies, CheckComesTo, Comes, Concludes, ConcludesCheck, IsAbout, JobComesTo, Proceeds, UnreadComesTo, answer_for, by_certificate, by_texts, head_by}
-use Rattle.ba_jobs.specs.Jobs.{is_search, sample_job, sample_texts, written_by}
+use Rattle.std.proofs.Common.{◌≡◌, ℕ, inl, inr, Option, None, Some, [], Result, Ok, Err, IfOk, IfErr, refl, sym, subst, arith}
+use Rattle.std.proofs.lemmas.Result.{IfOk-weaker}
 use Rattle.ba_answers.specs.declared.answers.Answer.{Answer}
 use Rattle.ba_answers.specs.declared.answers.Answer.TheVariants as answer
-use Rattle.ba_answers.specs.declared.file.File.{File}
-use Rattle.ba_answers.specs.declared.file.File.TheVariants as file
-use Rattle.ba_jobs.specs.declared.files.Texts.{Texts}
-use Rattle.ba_jobs.specs.declared.jobs.Job.{Job}
-use Rattle.ba_jobs.specs.declared.jobs.Task.{Task}
-use Rattle.ba_jobs.specs.declared.jobs.Task.TheVariants as task
-use Rattle.ba_jobs.specs.declared.jobs.Request.{Request}
-use Rattle.ba_jobs.specs.declared.jobs.Request.TheVariants as request
-use Rattle.ba_tree.specs.declared.tree.Program.{Program}
-use Rattle.ba_tree_laws.specs.Spelling.{Spells}
-use Rattle.ba_tool.proofs.Answering.{answers_read}
+use Rattle.ba_cases.proofs.Answered.{stop_no_fault}
+use Rattle.ba_cases.specs.AtOnce.{IsAnswered, IsAtOnce}
+use Rattle.ba_cases.specs.Reading.{IsUnread, IsUnreadAs, by_texts, parts_of}
+use Rattle.ba_cases.specs.Searching.{HasHandFault}
+use Rattle.ba_cases.specs.declared.stop.Stop.{Stop}
+use Rattle.ba_cases.specs.declared.stop.Stop.TheVariants as stop
+use Rattle.ba_cases.specs.declared.texts.Texts.{Texts}
+use Rattle.ba_cert.specs.declared.head.CertHead.{CertHead}
+use Rattle.ba_commands.specs.Modes.{Word}
+use Rattle.ba_files.specs.Files.{AreRead}
+use Rattle.ba_search.specs.declared.search.SearchError.{SearchError}
+use Rattle.ba_search.specs.declared.search.SearchError.TheVariants as error
+use Rattle.ba_steps.proofs.SinkLaws.{Outlasts-refl}
+use Rattle.ba_steps.specs.Sinks.{Told}
+use Rattle.ba_world.proofs.WholeReads.{only_reads_none, only_reads_on}
+use Rattle.ba_world.specs.World.{OnlyReads, Outside}
+use Rattle.mode_check.specs.Checks as check
+use Rattle.mode_check.specs.Jobs as checks
+use Rattle.mode_check.specs.declared.jobs.CheckJob.{CheckJob}
+use Rattle.mode_localise.specs.Certifying.{Certifies}
+use Rattle.mode_localise.specs.Jobs as localise
+use Rattle.mode_localise.specs.Jobs.{sample_job, sample_texts}
+use Rattle.mode_localise.specs.Leaving as leaving
+use Rattle.mode_localise.specs.declared.jobs.LocaliseJob.{LocaliseJob}
+use Rattle.mode_rank.specs.Jobs as rank
+use Rattle.mode_rank.specs.Searches as searches
+use Rattle.mode_rank.specs.declared.jobs.RankJob.{RankJob}
+use Rattle.mode_run.specs.Runs as run
+use Rattle.mode_run.specs.Runs.{run_answer}
+use Rattle.mode_run.specs.declared.running.RunJob.{RunJob}
+use Rattle.ba_tool.specs.Calls.{Comes, RequestComesTo, RequestEnds, behind, in_reading, in_sample}
+use Rattle.ba_tool.specs.Requests.{cert_of, files_in, head_in}
+use Rattle.ba_tool.specs.declared.requests.Request.{Request}
+use Rattle.ba_tool.specs.declared.requests.Request.TheVariants as request
 
-pub judged : (j : Job) (x : Texts) (before after : Outside) (handed : Option Derivation) (a : Answer) →
-    AreRead j x before after → IsAnswer j x handed a → JobComesTo j before after handed a
-judged j x before after handed (answer.Unreadable which) r (p, s, row) =
-    absurd (answers_read j x p handed (answer.Unreadable which) row)
-judged j x before after handed (answer.TooLong which) r (p, s, row) =
-    absurd (answers_read j x p handed (answer.TooLong which) row)
-judged j x before after handed (answer.Located report) r h = (x, r, h)
-judged j x before after handed (answer.AssertFails at) r h = (x, r, h)
-judged j x before after handed (answer.Trap at) r h = (x, r, h)
-judged j x before after handed answer.NotFailing r h = (x, r, h)
-judged j x before after handed answer.BadWords r h = (x, r, h)
-judged j x before after handed (answer.BadProgram fault) r h = (x, r, h)
-judged j x before after handed (answer.BadInput fault) r h = (x, r, h)
-judged j x before after handed answer.TooLarge r h = (x, r, h)
-judged j x before after handed (answer.BeyondBound at) r h = (x, r, h)
-judged j x before after handed answer.NoRepair r h = (x, r, h)
-judged j x before after handed (answer.TooManySets weight most) r h = (x, r, h)
-judged j x before after handed (answer.BudgetSpent conflicts) r h = (x, r, h)
-judged j x before after handed (answer.BadWeights line) r h = (x, r, h)
-judged j x before after handed (answer.Sampled additions weight sets) r h = (x, r, h)
-judged j x before after handed (answer.Accepted claimed) r (p, s, row) =
-    absurd (answers_read j x p handed (answer.Accepted claimed) row)
-judged j x before after handed (answer.BadCertificate code line) r (p, s, row) =
-    absurd (answers_read j x p handed (answer.BadCertificate code line) row)
+-- WITHOUT A DERIVATION nothing is certified
+none_certified : (h : CertHead) (cert : Option Word) (o : Outside) → Certifies h cert [] o o
+none_certified h None o = refl
+none_certified h (Some name) o = refl
 
--- the reading stopped at a file that is read whole
-unread_as : (which : File) (error : ReadFileError) (j : Job) (before after : Outside) (a : Answer) →
-    StopsAt which error j before after → UnreadComesTo which error j before after None a
-unread_as file.Program error j before after a stops = (stops, refl)
-unread_as file.Input error j before after a stops = (stops, refl)
-unread_as file.Weights error j before after a stops = (stops, refl)
-unread_as file.Certificate error j before after a stops = absurd stops.read_before
-
-unread : (j : Job) (which : File) (error : ReadFileError) (before after : Outside) (a : Answer)
-    → StopsAt which error j before after → answer_for which error ≡ Some a → JobComesTo j before after None a
-unread j which read.Failed before after a stops is =
-    let same : answer.Unreadable which ≡ a = cc in subst (JobComesTo j before after None) same
-    (unread_as which read.Failed j before after (answer.Unreadable which) stops)
-unread j which read.TooLong before after a stops is =
-    let same : answer.TooLong which ≡ a = cc in subst (JobComesTo j before after None) same
-    (unread_as which read.TooLong j before after (answer.TooLong which) stops)
-unread j which read.Memory before after a stops is = let no : ⊥ = cc in absurd no
-
--- without a search nothing is handed on and written
-
-nothing_written : (h : CertHead) (name : Option Word) (o : Outside) → Certifies h name None o o
-nothing_written h None o = refl
-nothing_written h (Some name) o = refl
-
-pub comes_unsearched : (j : Job) (before read : Outside) (t : Told) (a : Answer) → OnlyReads before read →
-    JobComesTo j before read None a → Comes (request.Wanted j) before read t t a
-comes_unsearched j before read t a reads comes = record {
-  read = read;
-  handed = None;
+at_once_comes : (r : Request) (before after : Outside) (t : Told) (a : Answer) → OnlyReads before after →
+    RequestComesTo r before after [] a → Comes r before after t t a
+at_once_comes r before after t a reads comes = record {
+  read = after;
+  handed = [];
   comes = comes;
   reads = reads;
   hands = (refl, refl);
-  certifies = nothing_written (head_by j) (written_by j.task j.cert) read;
+  certifies = none_certified (head_in r) (cert_of r) after;
 }
 
-pub comes_unread : (j : Job) (which : File) (error : ReadFileError) (before read : Outside) (t : Told) (a :
-    Answer)
-    → OnlyReads before read → StopsAt which error j before read → answer_for which error ≡ Some a
-    → Comes (request.Wanted j) before read t t a
-comes_unread j which error before read t a reads stops is =
-    comes_unsearched j before read t a reads (unread j which error before read a stops is)
+-- WORDS THAT ARE NO COMMAND
+pub refused_ends : (r : Request) (o : Outside) (t : Told) → r ≡ request.Refused →
+    RequestEnds r o o t t (Ok answer.BadWords)
+refused_ends r o t is = subst (λ r. RequestEnds r o o t t (Ok answer.BadWords)) (sym is) (record {
+  answer = at_once_comes request.Refused o o t answer.BadWords (only_reads_none o) (refl, refl, refl);
+  left = in_reading (only_reads_none o) (refl, refl);
+  cause = λ failed. absurd (let no : ⊥ = cc in no);
+  outlasts = Outlasts-refl t;
+})
 
--- a certificate comes to the answers of a check
-checked_as : (j : Job) (before after : Outside) (handed : Option Derivation) (a : Answer) (over : Derivation)
-    (x : Texts) (p : Program) (read : Outside) → IsAbout j x p over a read after →
-    CheckComesTo j before after handed a → JobComesTo j before after handed a
-checked_as j before after handed (answer.Accepted claimed) over x p read about c = c
-checked_as j before after handed (answer.BadCertificate code line) over x p read about c = c
-checked_as j before after handed (answer.Unreadable file.Certificate) over x p read about c = c
-checked_as j before after handed (answer.TooLong file.Certificate) over x p read about c = c
-checked_as j before after handed (answer.Unreadable file.Program) over x p read about c = absurd about.comes
-checked_as j before after handed (answer.Unreadable file.Input) over x p read about c = absurd about.comes
-checked_as j before after handed (answer.Unreadable file.Weights) over x p read about c = absurd about.comes
-checked_as j before after handed (answer.TooLong file.Program) over x p read about c = absurd about.comes
-checked_as j before after handed (answer.TooLong file.Input) over x p read about c = absurd about.comes
-checked_as j before after handed (answer.TooLong file.Weights) over x p read about c = absurd about.comes
-checked_as j before after handed (answer.Located report) over x p read about c = absurd about.comes
-checked_as j before after handed (answer.Sampled additions weight sets) over x p read about c =
-    absurd about.comes
-checked_as j before after handed (answer.AssertFails at) over x p read about c = absurd about.comes
-checked_as j before after handed (answer.Trap at) over x p read about c = absurd about.comes
-checked_as j before after handed answer.NotFailing over x p read about c = absurd about.comes
-checked_as j before after handed answer.BadWords over x p read about c = absurd about.comes
-checked_as j before after handed (answer.BadProgram fault) over x p read about c = absurd about.comes
-checked_as j before after handed (answer.BadInput fault) over x p read about c = absurd about.comes
-checked_as j before after handed answer.TooLarge over x p read about c = absurd about.comes
-checked_as j before after handed (answer.BeyondBound at) over x p read about c = absurd about.comes
-checked_as j before after handed answer.NoRepair over x p read about c = absurd about.comes
-checked_as j before after handed (answer.TooManySets weight most) over x p read about c = absurd about.comes
-checked_as j before after handed (answer.BudgetSpent conflicts) over x p read about c = absurd about.comes
-checked_as j before after handed (answer.BadWeights line) over x p read about c = absurd about.comes
-
--- no certificate is written in a check
-checks_write : (h : CertHead) (t : Task) (cert : Option Word) (handed : Option Derivation) (o : Outside) → t
-    ≡ task.Check →
-    Certifies h (written_by t cert) handed o o
-checks_write h task.Check cert handed o is = refl
-checks_write h task.Run cert handed o is = let no : ⊥ = cc in absurd no
-checks_write h task.Localise cert handed o is = let no : ⊥ = cc in absurd no
-checks_write h (task.Sample additions) cert handed o is = let no : ⊥ = cc in absurd no
-
--- what a job comes to whose files were read, by what their texts come to
-pub comes_proceeds : (j : Job) (x : Texts) (before read after : Outside) (t u : Told) (a : Answer) →
-    OnlyReads before read → AreRead j x before read → Proceeds j x read after t u a →
-    Comes (request.Wanted j) before after t u a
-comes_proceeds j x before read after t u a reads r (by_texts handed is hands certifies) = record {
-  read = read;
-  handed = handed;
-  comes = judged j x before read handed a r is;
-  reads = reads;
-  hands = hands;
-  certifies = certifies;
+-- A FILE WASN'T READ
+pub unread_ends : (r : Request) (before after : Outside) (t : Told) (s : Stop) (result : Result Answer
+    SearchError)
+    → OnlyReads before after → ((a : Answer) → IsUnreadAs (files_in r) before after a →
+    RequestComesTo r before after [] a) → IsUnread (files_in r) before after s → IsAnswered s result →
+    RequestEnds r before after t t result
+unread_ends r before after t s result reads comes is answered = record {
+  answer = by s is answered;
+  left = in_reading reads (refl, refl);
+  cause = λ failed. absurd (stop_no_fault s result answered failed);
+  outlasts = Outlasts-refl t;
 }
-comes_proceeds j x before read after t u a reads r (by_certificate p spells checks only c) = record {
-  read = after;
-  handed = Some c.over;
-  comes = checked_as j before after (Some c.over) a c.over x p read c.about (record {
-    texts = x;
-    read = read;
-    are_read = r;
-    program = p;
-    spells = spells;
-    checks = checks;
-    over = c.over;
-    handed_is = refl;
-    about = c.about;
-  });
-  reads = only_reads_on before read after reads only;
-  hands = c.hands;
-  certifies = checks_write (head_by j) j.task j.cert (Some c.over) after checks.0;
+  where
+    by : (s : Stop) → IsUnread (files_in r) before after s → IsAnswered s result →
+        IfOk result (Comes r before after t t)
+    by (stop.Answered a) is answered = subst (λ o. IfOk o (Comes r before after t t)) (sym answered)
+        (at_once_comes r before after t a reads (comes a is))
+    by stop.Memory is answered = subst (λ o. IfOk o (Comes r before after t t)) (sym answered) tt
+
+-- A SAMPLE
+
+own_sample_ends : (n : ℕ) (before after : Outside) (t u : Told) (result : Result Answer SearchError) →
+    leaving.TextsEnd (sample_job n) (sample_texts n) before after t u result →
+    RequestEnds (request.Sample n) before after t u result
+own_sample_ends n before after t u result ends = record {
+  answer = IfOk-weaker result _ (Comes (request.Sample n) before after t u)
+      (λ a k. record {
+        read = before;
+        handed = k.handed;
+        comes = (refl, k.is);
+        reads = only_reads_none before;
+        hands = k.hands;
+        certifies = k.certifies;
+      }) ends.answer;
+  left = in_sample n refl ends.left;
+  cause = ends.cause;
+  outlasts = ends.outlasts;
 }
 
--- and what a sample comes to
-pub comes_sampled : (additions : ℕ) (before after : Outside) (t u : Told) (a : Answer) →
-    Proceeds (sample_job additions) (sample_texts additions) before after t u a →
-    Comes (request.Sample additions) before after t u a
-comes_sampled additions before after t u a (by_texts handed is hands certifies) = record {
-  read = before;
-  handed = handed;
-  comes = (refl, is);
-  reads = only_reads_none before;
-  hands = hands;
-  certifies = certifies;
-}
-comes_sampled additions before after t u a (by_certificate p spells checks only c) =
-    let is : task.Sample additions ≡ task.Check = checks.0 in let no : ⊥ = cc in absurd no
+pub sample_ends : (n : ℕ) (j : LocaliseJob) (x : Texts) (before after : Outside) (t u : Told)
+    (result : Result Answer SearchError) → j ≡ sample_job n → x ≡ sample_texts n →
+    leaving.TextsEnd j x before after t u result → RequestEnds (request.Sample n) before after t u result
+sample_ends n j x before after t u result job texts ends = own_sample_ends n before after t u result
+    (subst (λ x. leaving.TextsEnd (sample_job n) x before after t u result) texts
+    (subst (λ j. leaving.TextsEnd j x before after t u result) job ends))
 
-pub sampled_as : (j : Job) (x : Texts) (additions : ℕ) (before after : Outside) (t u : Told) (a : Answer) →
-    j ≡ sample_job additions → x ≡ sample_texts additions → Proceeds j x before after t u a →
-    Comes (request.Sample additions) before after t u a
-sampled_as j x additions before after t u a job texts holds = comes_sampled additions before after t u a
-    (subst (λ x. Proceeds (sample_job additions) x before after t u a) texts
-    (subst (λ j. Proceeds j x before after t u a) job holds))
+-- TEXTS THAT WERE READ come to an end by their mode
 
--- texts that are answered at once, and a search
-pub proceeds_judged : (j : Job) (x : Texts) (o : Outside) (t : Told) (a : Answer) → IsAnswer j x None a →
-    Proceeds j x o o t t a
-proceeds_judged j x o t a is =
-    by_texts None is (refl, refl) (nothing_written (head_by j) (written_by j.task j.cert) o)
+faults_later : (cert : Option Word) (before read after : Outside) (t u : Told) → OnlyReads before read →
+    HasHandFault cert read after t u → HasHandFault cert before after t u
+faults_later None before read after t u reads rose = rose
+faults_later (Some name) before read after t u reads (inl rose) =
+    let same = reads.write_faults in inl (omega (arith, same, rose))
+faults_later (Some name) before read after t u reads (inr top) = inr top
 
--- a job that searches writes the certificate that is named
-pub searches_write : (t : Task) (cert : Option Word) → is_search t ≡ true → cert ≡ written_by t cert
-searches_write task.Localise cert is = refl
-searches_write (task.Sample additions) cert is = refl
-searches_write task.Check cert is = let no : ⊥ = cc in absurd no
-searches_write task.Run cert is = let no : ⊥ = cc in absurd no
-
-pub proceeds_searched : (j : Job) (x : Texts) (old new : Outside) (t u : Told) (a : Answer) →
-    is_search j.task ≡ true → Concludes j x j.cert old new t u a → Proceeds j x old new t u a
-proceeds_searched j x old new t u a is c = by_texts (Some c.derivation) c.is c.hands
-    (subst (λ cert. Certifies (head_by j) cert (Some c.derivation) old new)
-    (searches_write j.task j.cert is) c.certifies)
-
-pub proceeds_checked : (j : Job) (x : Texts) (p : Program) (old new : Outside) (t u : Told) (a : Answer) →
-    Spells x.program p → Checks j x p → OnlyReads old new → ConcludesCheck j x p old new t u a →
-    Proceeds j x old new t u a
-proceeds_checked j x p old new t u a spells checks only c = by_certificate p spells checks only c
-
--- words that are answered at once
-
-comes_refused : (before : Outside) (t : Told) → Comes request.Refused before before t t answer.BadWords
-comes_refused before t = record {
-  read = before;
-  handed = None;
-  comes = (refl, record { unread = refl; unsearched = refl });
-  reads = only_reads_none before;
-  hands = (refl, refl);
-  certifies = refl;
+pub localise_ends : (j : LocaliseJob) (x : Texts) (before read after : Outside) (t u : Told)
+    (result : Result Answer SearchError) → AreRead (localise.files_of j) (parts_of x) before read →
+    OnlyReads before read → leaving.TextsEnd j x read after t u result →
+    RequestEnds (request.Localise j) before after t u result
+localise_ends j x before read after t u result are reads ends = record {
+  answer = IfOk-weaker result _ (Comes (request.Localise j) before after t u)
+      (λ a k. record {
+        read = read;
+        handed = k.handed;
+        comes = by_texts x read are (refl, k.is);
+        reads = reads;
+        hands = k.hands;
+        certifies = k.certifies;
+      }) ends.answer;
+  left = behind x read are ends.left;
+  cause = λ failed. faults_later j.cert before read after t u reads (ends.cause failed);
+  outlasts = ends.outlasts;
 }
 
-pub refused_as : (r : Request) (before : Outside) (t : Told) → request.Refused ≡ r →
-    Comes r before before t t answer.BadWords
-refused_as r before t is = subst (λ r. Comes r before before t t answer.BadWords) is (comes_refused before t)
+pub check_ends : (j : CheckJob) (x : Texts) (before read after : Outside) (t u : Told)
+    (result : Result Answer SearchError) → AreRead (checks.files_of j) (parts_of x) before read →
+    OnlyReads before read → OnlyReads read after → check.TextsEnd j x read after t u result →
+    RequestEnds (request.Check j) before after t u result
+check_ends j x before read after t u result are reads more ends = record {
+  answer = IfOk-weaker result _ (Comes (request.Check j) before after t u)
+      (λ a k. record {
+        read = after;
+        handed = k.handed;
+        comes = by_texts x read are k.is;
+        reads = only_reads_on before read after reads more;
+        hands = k.hands;
+        certifies = refl;
+      }) ends.answer;
+  left = behind x read are ends.left;
+  cause = ends.cause;
+  outlasts = ends.outlasts;
+}
+
+pub run_ends : (j : RunJob) (x : Texts) (before after : Outside) (t : Told) (result : Result Answer
+    SearchError) →
+    AreRead (run.files_of j) (parts_of x) before after → OnlyReads before after →
+    IfOk result (IsAtOnce x.program (run_answer j.bounds x)) → IfErr result (λ e. e ≡ error.Memory) →
+    RequestEnds (request.Run j) before after t t result
+run_ends j x before after t result are reads ok short = record {
+  answer = IfOk-weaker result _ (Comes (request.Run j) before after t t)
+      (λ a once. at_once_comes (request.Run j) before after t a reads
+      (by_texts x after are (refl, (once, refl))))
+      ok;
+  left = in_reading reads (refl, refl);
+  cause = λ failed. absurd (apart failed);
+  outlasts = Outlasts-refl t;
+}
+  where
+    apart : result ≡ Err error.SinkFailed → ⊥
+    apart failed = let memory : error.SinkFailed ≡ error.Memory =
+        subst (λ r. IfErr r (λ e. e ≡ error.Memory)) failed short in cc
+
+pub rank_ends : (j : RankJob) (x : Texts) (before after : Outside) (t u : Told)
+    (result : Result Answer SearchError) → AreRead (rank.files_of j) (parts_of x) before after →
+    OnlyReads before after → searches.TextsEnd j x t u result →
+    RequestEnds (request.Rank j) before after t u result
+rank_ends j x before after t u result are reads ends = record {
+  answer = IfOk-weaker result _ (Comes (request.Rank j) before after t u)
+      (λ a k. record {
+        read = after;
+        handed = k.handed;
+        comes = by_texts x after are (refl, k.is);
+        reads = reads;
+        hands = k.hands;
+        certifies = refl;
+      }) ends.answer;
+  left = behind x after are (refl, ends.left);
+  cause = ends.cause;
+  outlasts = ends.outlasts;
+}

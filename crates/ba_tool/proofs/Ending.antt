@@ -1,62 +1,65 @@
 -- How a call ends, by the answer that it comes to.
 
-use Rattle.ba_steps.specs.Sinks.{Told}
-use Rattle.std.proofs.Common.{◌≡◌, inl, inr, ℕ, ◌≤◌, Option, None, Some, List, ◌++◌, length, take, option_map, All, IfSome, refl, sym, ap, subst, ◌∙◌, arith}
-use Rattle.std.proofs.lemmas.List.Elements.{All-nil}
+use Rattle.std.proofs.Common.{◌≡◌, inl, inr, ℕ, ◌≤◌, Option, None, Some, List, [], ◌∷◌, ◌++◌, length, take, option_map, All, IfSome, refl, sym, ap, subst, ◌∙◌, arith}
 use Rattle.std.proofs.lemmas.List.{take_all}
-use Rattle.ba_cert.specs.declared.head.CertHead.{CertHead}
-use Rattle.ba_cert.specs.Text.{text_of as certificate_of}
-use Rattle.ba_cert.specs.Writing.{BeginsText}
-use Rattle.ba_commands.specs.Modes.{Word}
-use Rattle.ba_derivations.specs.declared.verdict.Verdict.{Verdict}
-use Rattle.ba_derivations.specs.declared.verdict.Verdict.TheVariants as verdict
-use Rattle.ba_localise.specs.Verdicts.{Derivation, Shows}
-use Rattle.ba_steps.specs.Steps.{IsFormed}
-use Rattle.ba_steps.specs.declared.step.CertStep.{CertStep}
-use Rattle.ba_world.specs.World.{HasPrintShortage, HasWriteFault, OnlyPrints, OnlyReads, OnlyWrites, Outside, Prints, PrintsPrefix}
-use Rattle.ba_world.specs.declared.read.ReadFileError.{ReadFileError}
-use Rattle.ba_world.specs.declared.read.ReadFileError.TheVariants as read_error
-use Rattle.ba_world.proofs.WholeReads.{rose_since}
-use Rattle.ba_tool.proofs.Leaving.{MayBegin, Passes, passes_stops}
-use Rattle.ba_tool.specs.Answers.{Answers, IsAnswer}
-use Rattle.ba_tool.specs.Calls.{Answered, AnsweredInPart, Call, Certifies, CheckComesTo, Comes, ComesTo, IsShown, JobComesTo, RequestComesTo, Says, Stops, UnreadComesTo, WritesOnly, head_in}
-use Rattle.ba_jobs.specs.Jobs.{cert_of, request_of, sample_job, sample_texts}
 use Rattle.ba_answers.specs.Printed.{status_of, text_of}
 use Rattle.ba_answers.specs.declared.answers.Answer.{Answer}
 use Rattle.ba_answers.specs.declared.answers.Answer.TheVariants as answer
-use Rattle.ba_answers.specs.declared.file.File.{File}
-use Rattle.ba_answers.specs.declared.file.File.TheVariants as file
-use Rattle.ba_jobs.specs.declared.files.Texts.{Texts}
-use Rattle.ba_jobs.specs.declared.jobs.Job.{Job}
-use Rattle.ba_jobs.specs.declared.jobs.Request.{Request}
-use Rattle.ba_jobs.specs.declared.jobs.Request.TheVariants as request
 use Rattle.ba_answers.specs.declared.status.Status.{Status}
+use Rattle.ba_cases.specs.Reading.{FilesComeTo, Unaided, by_texts, parts_of, unread}
+use Rattle.ba_cases.specs.Searching.{at_once, by_search}
+use Rattle.ba_cases.specs.declared.texts.Texts.{Texts}
+use Rattle.ba_cert.specs.Text.{text_of as certificate_of}
+use Rattle.ba_cert.specs.Writing.{BeginsText, no_head}
+use Rattle.ba_cert.specs.declared.head.CertHead.{CertHead}
 use Rattle.ba_choices.specs.Judges.{Judge}
+use Rattle.ba_commands.specs.Modes.{Word}
+use Rattle.ba_derivations.specs.Handing.{Derivation}
+use Rattle.ba_derivations.specs.declared.verdict.Verdict.{Verdict}
+use Rattle.ba_derivations.specs.declared.verdict.Verdict.TheVariants as verdict
+use Rattle.ba_files.proofs.Told.{all_only}
+use Rattle.ba_localise.specs.Verdicts.{Shows}
+use Rattle.ba_steps.specs.Sinks.{Told}
+use Rattle.ba_steps.specs.Steps.{IsFormed}
+use Rattle.ba_steps.specs.declared.step.CertStep.{CertStep}
 use Rattle.ba_tree.specs.Least.{WeightList}
-use Rattle.ba_tree.specs.declared.tree.Program.{Program}
+use Rattle.ba_world.proofs.WholeReads.{only_reads_none, only_reads_on, rose_since}
+use Rattle.ba_world.specs.World.{HasPrintShortage, HasWriteFault, OnlyPrints, OnlyReads, OnlyWrites, Outside, Prints, PrintsPrefix}
+use Rattle.mode_check.specs.Checks as check
+use Rattle.mode_check.specs.declared.jobs.CheckJob.{CheckJob}
+use Rattle.mode_localise.proofs.Leaving.{MayBegin, nothing_begun, stops_begin}
+use Rattle.mode_localise.specs.Answers.{IsAnswer}
+use Rattle.mode_localise.specs.Certifying.{Certifies}
+use Rattle.mode_localise.specs.Jobs.{files_of, head_by, sample_job, sample_texts}
+use Rattle.mode_localise.specs.declared.jobs.LocaliseJob.{LocaliseJob}
+use Rattle.ba_tool.specs.Calls.{Answered, AnsweredInPart, Call, Comes, ComesTo, IsShown, RequestComesTo, Says, Stops, StopsBehind, WritesOnly, behind, in_reading, in_sample}
+use Rattle.ba_tool.specs.Requests.{cert_of, files_in, head_in, request_of}
+use Rattle.ba_tool.specs.declared.requests.Request.{Request}
+use Rattle.ba_tool.specs.declared.requests.Request.TheVariants as request
 
 -- what the status of an answer says, by the answer
 said : (c : Call) (a : Answer) → Answered c a → Says c (status_of a)
 said c (answer.Located report) h = inl (report, h)
 said c (answer.Sampled additions weight sets) h = inr (inl (additions, weight, sets, h))
-said c (answer.Accepted claimed) h = inr (inr (inl (claimed, h)))
-said c (answer.AssertFails at) h = inr (inr (inr (inl (at, h))))
-said c (answer.Trap at) h = inr (inr (inr (inr (at, h))))
-said c answer.NotFailing h = h
+said c (answer.Ranked report) h = inr (inr (inl (report, h)))
+said c (answer.Accepted claimed) h = inr (inr (inr (inl (claimed, h))))
+said c (answer.AssertFails at) h = inr (inr (inr (inr (inl (at, h)))))
+said c (answer.Trap at) h = inr (inr (inr (inr (inr (at, h)))))
+said c (answer.NotFailing line) h = (line, h)
 said c answer.BadWords h = h
 said c (answer.BadProgram fault) h = (fault, h)
-said c (answer.BadInput fault) h = (fault, h)
+said c (answer.BadInput which fault line) h = (which, fault, line, h)
 said c answer.TooLarge h = h
-said c (answer.BeyondBound at) h = (at, h)
+said c (answer.BeyondBound at line) h = (at, line, h)
 said c answer.NoRepair h = h
-said c (answer.TooManySets weight most) h = (weight, most, h)
-said c (answer.BudgetSpent conflicts) h = (conflicts, h)
+said c (answer.TooManySets weight most line) h = (weight, most, line, h)
+said c (answer.BudgetSpent conflicts line) h = (conflicts, line, h)
 said c (answer.Unreadable which) h = (which, h)
 said c (answer.TooLong which) h = (which, h)
 said c (answer.BadWeights line) h = (line, h)
 said c (answer.BadCertificate code line) h = (code, line, h)
 
--- THE STEPS THAT ARE HANDED ON are formed
+-- THE STEPS OF A CERTIFICATE are formed
 
 shows_formed : (weights : WeightList) (good : Judge) (conflicts most : ℕ) (d : Derivation) (v : Verdict) →
     Shows weights good conflicts most d v → All IsFormed d.steps
@@ -65,104 +68,22 @@ shows_formed weights good conflicts most d verdict.NoRepair shows = shows.says.0
 shows_formed weights good conflicts most d (verdict.TooMany weight sets) shows = shows.says.0.formed
 shows_formed weights good conflicts most d verdict.Spent shows = shows.says.formed
 
-abbrev AreFormed : Option Derivation → Type 0
-AreFormed handed = IfSome handed (λ d. All IsFormed d.steps)
+-- those of the first derivation, which is the one that is written
+abbrev IsFirstFormed : List Derivation → Type 0
+IsFirstFormed [] = Unit {0}
+IsFirstFormed (d ∷ others) = All IsFormed d.steps
 
-row_formed : (j : Job) (x : Texts) (p : Program) (handed : Option Derivation) (a : Answer) →
-    Answers j x p handed a → AreFormed handed
-row_formed j x p None a row = tt
-row_formed j x p (Some d) a row = shows_formed _ _ j.conflicts j.sets d row.verdict row.shows
+answer_formed : (j : LocaliseJob) (x : Texts) (handed : List Derivation) (a : Answer) → IsAnswer j x handed a
+    →
+    IsFirstFormed handed
+answer_formed j x handed a (at_once is none) = subst IsFirstFormed (sym none) tt
+answer_formed j x handed a (by_search p spells none found) = subst IsFirstFormed (sym found.handed_is)
+    (shows_formed _ _ j.conflicts j.sets found.derivation found.verdict found.shows)
 
-answer_formed : (j : Job) (x : Texts) (handed : Option Derivation) (a : Answer) → IsAnswer j x handed a →
-    AreFormed handed
-answer_formed j x handed (answer.BadProgram fault) (of, none) = subst AreFormed (sym none) tt
-answer_formed j x handed (answer.Located report) (p, s, row) = row_formed j x p handed (answer.Located
-    report) row
-answer_formed j x handed (answer.AssertFails at) (p, s, row) = row_formed j x p handed (answer.AssertFails
-    at) row
-answer_formed j x handed (answer.Trap at) (p, s, row) = row_formed j x p handed (answer.Trap at) row
-answer_formed j x handed answer.NotFailing (p, s, row) = row_formed j x p handed answer.NotFailing row
-answer_formed j x handed answer.BadWords (p, s, row) = row_formed j x p handed answer.BadWords row
-answer_formed j x handed (answer.BadInput fault) (p, s, row) = row_formed j x p handed (answer.BadInput
-    fault) row
-answer_formed j x handed answer.TooLarge (p, s, row) = row_formed j x p handed answer.TooLarge row
-answer_formed j x handed (answer.BeyondBound at) (p, s, row) = row_formed j x p handed (answer.BeyondBound
-    at) row
-answer_formed j x handed answer.NoRepair (p, s, row) = row_formed j x p handed answer.NoRepair row
-answer_formed j x handed (answer.TooManySets weight most) (p, s, row) = row_formed j x p handed
-    (answer.TooManySets weight most) row
-answer_formed j x handed (answer.BudgetSpent conflicts) (p, s, row) = row_formed j x p handed
-    (answer.BudgetSpent conflicts) row
-answer_formed j x handed (answer.Unreadable which) (p, s, row) = row_formed j x p handed (answer.Unreadable
-    which) row
-answer_formed j x handed (answer.TooLong which) (p, s, row) = row_formed j x p handed (answer.TooLong
-    which) row
-answer_formed j x handed (answer.BadWeights line) (p, s, row) = row_formed j x p handed (answer.BadWeights
-    line) row
-answer_formed j x handed (answer.Sampled additions weight sets) (p, s, row) =
-    row_formed j x p handed (answer.Sampled additions weight sets) row
-answer_formed j x handed (answer.Accepted claimed) (p, s, row) =
-    row_formed j x p handed (answer.Accepted claimed) row
-answer_formed j x handed (answer.BadCertificate code line) (p, s, row) =
-    row_formed j x p handed (answer.BadCertificate code line) row
-
-none_formed : (handed : Option Derivation) → handed ≡ None → AreFormed handed
-none_formed handed none = subst AreFormed (sym none) tt
-
--- no step is handed on in a check
-check_formed : (j : Job) (before read : Outside) (handed : Option Derivation) (a : Answer) →
-    CheckComesTo j before read handed a → AreFormed handed
-check_formed j before read handed a c = subst AreFormed (sym c.handed_is)
-    (subst (All IsFormed) (sym c.about.no_step) (All-nil IsFormed))
-
-unread_formed : (which : File) (error : ReadFileError) (j : Job) (before read : Outside)
-    (handed : Option Derivation) (a : Answer) → UnreadComesTo which error j before read handed a →
-    AreFormed handed
-unread_formed file.Program error j before read handed a (stops, none) = none_formed handed none
-unread_formed file.Input error j before read handed a (stops, none) = none_formed handed none
-unread_formed file.Weights error j before read handed a (stops, none) = none_formed handed none
-unread_formed file.Certificate error j before read handed a c = check_formed j before read handed a c
-
-job_formed : (j : Job) (before read : Outside) (handed : Option Derivation) (a : Answer) →
-    JobComesTo j before read handed a → AreFormed handed
-job_formed j before read handed (answer.Unreadable which) comes =
-    unread_formed which read_error.Failed j before read handed (answer.Unreadable which) comes
-job_formed j before read handed (answer.TooLong which) comes =
-    unread_formed which read_error.TooLong j before read handed (answer.TooLong which) comes
-job_formed j before read handed (answer.Accepted claimed) comes = check_formed j before read handed
-    (answer.Accepted claimed) comes
-job_formed j before read handed (answer.BadCertificate code line) comes =
-    check_formed j before read handed (answer.BadCertificate code line) comes
-job_formed j before read handed (answer.BadProgram fault) (x, r, is) = answer_formed j x handed
-    (answer.BadProgram fault) is
-job_formed j before read handed (answer.Located report) (x, r, is) = answer_formed j x handed
-    (answer.Located report) is
-job_formed j before read handed (answer.AssertFails at) (x, r, is) = answer_formed j x handed
-    (answer.AssertFails at) is
-job_formed j before read handed (answer.Trap at) (x, r, is) = answer_formed j x handed (answer.Trap at) is
-job_formed j before read handed answer.NotFailing (x, r, is) = answer_formed j x handed answer.NotFailing is
-job_formed j before read handed answer.BadWords (x, r, is) = answer_formed j x handed answer.BadWords is
-job_formed j before read handed (answer.BadInput fault) (x, r, is) = answer_formed j x handed
-    (answer.BadInput fault) is
-job_formed j before read handed answer.TooLarge (x, r, is) = answer_formed j x handed answer.TooLarge is
-job_formed j before read handed (answer.BeyondBound at) (x, r, is) = answer_formed j x handed
-    (answer.BeyondBound at) is
-job_formed j before read handed answer.NoRepair (x, r, is) = answer_formed j x handed answer.NoRepair is
-job_formed j before read handed (answer.TooManySets weight most) (x, r, is) = answer_formed j x handed
-    (answer.TooManySets weight most) is
-job_formed j before read handed (answer.BudgetSpent conflicts) (x, r, is) = answer_formed j x handed
-    (answer.BudgetSpent conflicts) is
-job_formed j before read handed (answer.BadWeights line) (x, r, is) = answer_formed j x handed
-    (answer.BadWeights line) is
-job_formed j before read handed (answer.Sampled additions weight sets) (x, r, is) =
-    answer_formed j x handed (answer.Sampled additions weight sets) is
-
-formed_of : (r : Request) (before read : Outside) (handed : Option Derivation) (a : Answer) →
-    RequestComesTo r before read handed a → AreFormed handed
-formed_of request.Refused before read handed a (is, once) = none_formed handed once.unsearched
-formed_of (request.Sample additions) before read handed a (same, is) =
-    answer_formed (sample_job additions) (sample_texts additions) handed a is
-formed_of (request.Wanted j) before read handed a comes = job_formed j before read handed a comes
+localise_formed : (j : LocaliseJob) (before read : Outside) (handed : List Derivation) (a : Answer) →
+    FilesComeTo (files_of j) (Unaided (IsAnswer j)) before read handed a → IsFirstFormed handed
+localise_formed j before read handed a (unread is none) = subst IsFirstFormed (sym none) tt
+localise_formed j before read handed a (by_texts x opened are holds) = answer_formed j x handed a holds.1
 
 -- WHAT IS WRITTEN before anything is printed
 
@@ -176,25 +97,80 @@ whole_begins h steps (Some bytes) formed held = (
   (length bytes, sym (take_all (length bytes) bytes (omega arith)) ∙ ap (take (length bytes)) held),
 )
 
-may_begin : (h : CertHead) (name : Option Word) (handed : Option Derivation) (old new : Outside) →
-    AreFormed handed →
-    Certifies h name handed old new → MayBegin h name old new
+may_begin : (h : CertHead) (name : Option Word) (handed : List Derivation) (old new : Outside) →
+    IsFirstFormed handed → Certifies h name handed old new → MayBegin h name old new
 may_begin h None handed old new formed same = same
-may_begin h (Some name) None old new formed same = inl same
-may_begin h (Some name) (Some d) old new formed writes = inr (record {
+may_begin h (Some name) [] old new formed same = inl same
+may_begin h (Some name) (d ∷ others) old new formed writes = inr (record {
   only = writes.only;
   beginning = inr ∣ whole_begins h d.steps (new.kept name) formed writes.holds ∣₁;
 })
 
+comes_begin : (r : Request) (before read after : Outside) (handed : List Derivation) (a : Answer) →
+    RequestComesTo r before read handed a → Certifies (head_in r) (cert_of r) handed read after →
+    MayBegin (head_in r) (cert_of r) read after
+comes_begin (request.Localise j) before read after handed a comes certifies =
+    may_begin (head_by j) j.cert handed read after (localise_formed j before read handed a comes) certifies
+comes_begin request.Refused before read after handed a comes same = same
+comes_begin (request.Sample additions) before read after handed a comes same = same
+comes_begin (request.Check j) before read after handed a comes same = same
+comes_begin (request.Run j) before read after handed a comes same = same
+comes_begin (request.Rank j) before read after handed a comes same = same
+
+-- WHAT A REQUEST PASSED: it read, and may have begun the certificate, if one is named
+record Passes (h : CertHead) (cert : Option Word) (before after : Outside) : Type 0 where
+  pub read : Outside
+  pub reads : OnlyReads before read
+  pub may : MayBegin h cert read after
+
 comes_passes : (r : Request) (before after : Outside) (t u : Told) (a : Answer) →
-    Comes r before after t u a
-    → Passes (head_in r) (cert_of r) before after
+    Comes r before after t u a → Passes (head_in r) (cert_of r) before after
 comes_passes r before after t u a c = record {
   read = c.read;
   reads = c.reads;
-  may = may_begin (head_in r) (cert_of r) c.handed c.read after (formed_of r before c.read c.handed a c.comes)
-      c.certifies;
+  may = comes_begin r before c.read after c.handed a c.comes c.certifies;
 }
+
+only_read : (before after : Outside) → OnlyReads before after → Passes no_head None before after
+only_read before after reads = record { read = after; reads = reads; may = refl }
+
+check_reads : (j : CheckJob) (x : Texts) (before after : Outside) (t u : Told) →
+    check.Stops j x before after t u → OnlyReads before after
+check_reads j x before after t u (check.at_once same hands) =
+    subst (OnlyReads before) (sym same) (only_reads_none before)
+check_reads j x before after t u (check.in_check p spells none reads may logs) = reads
+
+behind_passes : (r : Request) (x : Texts) (before read after : Outside) (t u : Told) → OnlyReads before read →
+    StopsBehind r x read after t u → Passes (head_in r) (cert_of r) before after
+behind_passes (request.Localise j) x before read after t u reads s =
+    record { read = read; reads = reads; may = stops_begin j x read after t u s }
+behind_passes (request.Check j) x before read after t u reads s =
+    only_read before after (only_reads_on before read after reads (check_reads j x read after t u s))
+behind_passes (request.Rank j) x before read after t u reads s =
+    record { read = read; reads = reads; may = s.0 }
+behind_passes request.Refused x before read after t u reads never = absurd never
+behind_passes (request.Sample additions) x before read after t u reads never = absurd never
+behind_passes (request.Run j) x before read after t u reads never = absurd never
+
+read_passes : (r : Request) (before after : Outside) → OnlyReads before after →
+    Passes (head_in r) (cert_of r) before after
+read_passes r before after reads = record {
+  read = after;
+  reads = reads;
+  may = nothing_begun (head_in r) (cert_of r) after;
+}
+
+stops_passes : (r : Request) (before after : Outside) (t u : Told) → Stops r before after t u →
+    Passes (head_in r) (cert_of r) before after
+stops_passes r before after t u (in_reading reads hands) = read_passes r before after reads
+stops_passes r before after t u (in_sample additions is s) =
+    subst (λ r. Passes (head_in r) (cert_of r) before after) (sym is) (record {
+      read = before;
+      reads = only_reads_none before;
+      may = stops_begin (sample_job additions) (sample_texts additions) before after t u s;
+    })
+stops_passes r before after t u (behind x read files s) =
+    behind_passes r x before read after t u (all_only (files_in r) (parts_of x) before read files) s
 
 writes_none : (o : Outside) → OnlyWrites o o
 writes_none o = record {
@@ -217,8 +193,7 @@ pub reads_stay : (r : Request) (before after : Outside) (t u : Told) (a : Answer
     t u a) →
     after.read_faults ≡ c.read.read_faults
 reads_stay r before after t u a c = (only_writes (head_in r) (cert_of r) c.read after
-    (may_begin (head_in r) (cert_of r) c.handed c.read after (formed_of r before c.read c.handed a c.comes)
-    c.certifies)).read_faults
+    (comes_begin r before c.read after c.handed a c.comes c.certifies)).read_faults
 
 -- nothing was printed, no fault of reading rose, and no print found no memory
 pub record IsUnprinted (before after : Outside) : Type 0 where
@@ -343,7 +318,7 @@ prints_none o = record {
 pub stops_unprinted : (r : Request) (before after : Outside) (t u : Told) → Stops r before after t u
     → WritesOnly (cert_of r) before after
 stops_unprinted r before after t u s = passes_write (head_in r) (cert_of r) before after after
-    (passes_stops r before after t u s) (prints_none after)
+    (stops_passes r before after t u s) (prints_none after)
 
 pub comes_write : (r : Request) (before mid after : Outside) (t u : Told) (a : Answer) →
     Comes r before mid t u a

@@ -1,5 +1,2 @@
-pub mod Programs
-pub mod Answers
-pub mod Cases
-pub mod Certificates
+pub mod Requests
 pub mod Calls

@@ -7,7 +7,7 @@ ghost use Rattle.ba_answers.specs.Printed.{number_of};
 
 use crate::tool::tool;
 use ba_answers::status::Status;
-use ba_jobs::rules::{Rules, keep, luby, steady};
+use ba_rules::rules::{Rules, keep, luby, steady};
 use ba_steps::NoSink;
 use ba_world::{HostWorld, RuntimeFiles};
 use std::alloc::{AllocError, Global};

@@ -2,10 +2,6 @@
 //! is printed.
 #![tactic(auto)]
 
-mod certificates;
 pub mod entry;
-mod faults;
-mod judge;
-pub mod laws;
-mod search;
+mod requests;
 pub mod tool;

@@ -1,115 +1,41 @@
 //! The top call of the program.
 
-ghost use Rattle.std.specs.Prelude.{◌≡◌, ◌+◌, ◌*◌, ◌≤◌};
-ghost use Rattle.ba_jobs.specs.Rules.{AreJobRules};
-ghost use Rattle.ba_world.specs.Read.{piece_size};
-ghost use Rattle.ba_world.specs.World.{OnlyPrints, PrintsPrefix};
-ghost use Rattle.ba_tool.specs.Calls.{AreShort, EndsWhere, IsPrinted, IsShown, MayBeDone, RequestEnds, Says, TextsEnd, WritesOnly, answer_for, asked_by, call, most_given, most_of};
-ghost use Rattle.ba_answers.specs.Limits.{limit};
-ghost use Rattle.ba_jobs.specs.Files.{GivesAtMost};
-ghost use Rattle.ba_jobs.specs.Jobs.{cert_of, steady_of};
+ghost use Rattle.std.specs.Prelude.{◌≡◌, ◌≤◌, true};
 ghost use Rattle.ba_answers.specs.Printed.{text_of};
-ghost use Rattle.ba_answers.specs.declared.answers.Answer.{Answer};
-ghost use Rattle.ba_jobs.specs.declared.jobs.Request.{Request};
-ghost use Rattle.ba_steps.specs.Sinks.{Outlasts};
+ghost use Rattle.ba_files.specs.Files.{GivesAtMost};
+ghost use Rattle.ba_rules.specs.Rules.{AreJobRules};
+ghost use Rattle.ba_steps.specs.Sinks.{Outlasts, Told};
+ghost use Rattle.ba_tree.specs.Run.{are_bounds};
+ghost use Rattle.ba_world.specs.World.{OnlyPrints, PrintsPrefix};
+ghost use Rattle.mode_localise.specs.Jobs.{MayBeDone as MayBeLocalised};
+ghost use Rattle.mode_rank.specs.Jobs.{MayBeDone as MayBeRanked};
+ghost use Rattle.ba_tool.specs.Calls.{EndsWhere, IsPrinted, IsShown, RequestEnds, Says, WritesOnly, asked_by, call, most_given};
+ghost use Rattle.ba_tool.specs.Requests.{MayBeDone, cert_of, steady_of};
+ghost use Rattle.ba_tool.specs.declared.requests.Request.{Request};
 
-use crate::certificates::check;
-use crate::judge::{Judged, judge};
-use crate::search::conclude;
+use crate::requests::{Request, read_request};
 use ba_answers::answers::Answer;
 use ba_answers::status::Status;
-use ba_jobs::files::{Texts, Unread, read_texts};
-use ba_jobs::jobs::{Job, Request, read_request, sample_job};
-use ba_jobs::rules::Rules;
-use ba_jobs::samples::sample_texts;
+use ba_cases::Texts;
+use ba_rules::rules::Rules;
 use ba_search::{RulesBy, SearchError, SearchRules};
 use ba_steps::StepSink;
-use ba_world::{ReadFileError, World, WorldError};
+use ba_world::{World, WorldError};
+use mode_check::{CheckJob, check_texts};
+use mode_localise::{LocaliseJob, localise_texts, sample_job, sample_texts};
+use mode_rank::{RankJob, rank_texts};
+use mode_run::{RunJob, run_texts};
 use std::alloc::Global;
 
-/// The answer where a file of a job wasn't read; none for want of memory.
-fn unread_answer(unread: Unread) -> Option<Answer>
-    ensures { result ≡ answer_for unread.file unread.error }
-{
-    match unread.error {
-        ReadFileError::Failed => Some(Answer::Unreadable(unread.file)),
-        ReadFileError::TooLong => Some(Answer::TooLong(unread.file)),
-        ReadFileError::Memory => None,
-    }
-}
-
-/// What a job comes to where its files have these texts: they are judged, and where the run fails it
-/// searches for the least sets, or checks the certificate.
-///
-/// `SinkFailed` comes only where the faults of `steps` rose, or, where a certificate is written,
-/// those of `steps` and of the world's writing together; `Memory` for want of memory.
-fn texts_answer<W, D, R>(
-    alloc: Global,
-    world: &mut W,
-    job: &Job,
-    texts: &Texts,
-    steps: &mut D,
-    rules: R,
-) -> Result<Answer, SearchError>
-where
-    W: World,
-    D: StepSink + Drop,
-    R: SearchRules + Drop,
-    requires short { AreShort texts.now }
-    requires job { MayBeDone job.now }
-    requires rules { R.are_rules rules }
-    ensures ends { TextsEnd job.now texts.now
-        (W.outside world.old) (W.outside world.new) (D.told steps.old) (D.told steps.new) result }
-    ensures bounded { GivesAtMost (most_of job.now.task)
-        (W.outside world.old) (W.outside world.new) }
-{
-    match judge(alloc, job, texts)? {
-        Judged::Answered(answer) => Ok(answer),
-        Judged::ToSearch(case) => conclude(alloc, world, job, texts, &case, rules, steps),
-        Judged::ToCheck(case) => check(alloc, world, job, &case, steps),
-    }
-}
-
-/// What a job comes to: its files are read whole, and then their texts are judged.
-///
-/// `SinkFailed` comes only where the faults of `steps` rose, or, where a certificate is written,
-/// those of `steps` and of the world's writing together; `Memory` for want of memory.
-fn job_answer<W, D, R>(
-    alloc: Global,
-    world: &mut W,
-    job: &Job,
-    steps: &mut D,
-    rules: R,
-) -> Result<Answer, SearchError>
-where
-    W: World,
-    D: StepSink + Drop,
-    R: SearchRules + Drop,
-    requires job { MayBeDone job.now }
-    requires rules { R.are_rules rules }
-    ensures ends { RequestEnds (Request.Wanted job.now)
-        (W.outside world.old) (W.outside world.new) (D.told steps.old) (D.told steps.new) result }
-    ensures bounded { (W.outside world.new).given
-        ≤ (W.outside world.old).given + (3 * (limit + piece_size) + most_of job.now.task) }
-{
-    match read_texts(alloc, world, job) {
-        Ok(texts) => texts_answer(alloc, world, job, &texts, steps, rules),
-        Err(unread) => match unread_answer(unread) {
-            Some(answer) => Ok(answer),
-            None => Err(SearchError::Memory),
-        },
-    }
-}
-
-/// What a sample comes to: its text is judged, and its least sets are searched for.
+/// What the least sets of a sample come to: its text is made, and they are searched for.
 ///
 /// `SinkFailed` comes only where the faults of `steps` rose; `Memory` for want of memory.
 fn sample_answer<W, D, R>(
     alloc: Global,
     world: &mut W,
     additions: u32,
-    steps: &mut D,
     rules: R,
+    steps: &mut D,
 ) -> Result<Answer, SearchError>
 where
     W: World,
@@ -123,11 +49,142 @@ where
 {
     let job = sample_job(additions);
     let texts = sample_texts(alloc, additions)?;
-    texts_answer(alloc, world, &job, &texts, steps, rules)
+    localise_texts(alloc, world, &job, &texts, rules, steps)
 }
 
-/// What a call comes to, before it is printed: it reads the words, then the files, and then judges their
-/// texts, and searches or checks.
+/// What the least sets of a program come to: its files are read whole, and then they are searched for.
+///
+/// `SinkFailed` comes only where the faults of `steps` rose, or, where a certificate is named, those of
+/// `steps` and of the world's writing together; `Memory` for want of memory.
+fn localise_answer<W, D, R>(
+    alloc: Global,
+    world: &mut W,
+    job: &LocaliseJob,
+    rules: R,
+    steps: &mut D,
+) -> Result<Answer, SearchError>
+where
+    W: World,
+    D: StepSink + Drop,
+    R: SearchRules + Drop,
+    requires job { MayBeLocalised job.now }
+    requires rules { R.are_rules rules }
+    ensures ends { RequestEnds (Request.Localise job.now)
+        (W.outside world.old) (W.outside world.new) (D.told steps.old) (D.told steps.new) result }
+    ensures bounded { GivesAtMost (most_given (Request.Localise job.now))
+        (W.outside world.old) (W.outside world.new) }
+{
+    let files = job.files();
+    match Texts::read(alloc, world, files.as_slice()) {
+        Ok(texts) => localise_texts(alloc, world, job, &texts, rules, steps),
+        Err(stop) => stop.answer(),
+    }
+}
+
+/// What a certificate comes to: the files beside it are read whole, and then it is judged as it is read.
+///
+/// `SinkFailed` comes only where the faults of `steps` rose; `Memory` for want of memory.
+fn check_answer<W, D>(
+    alloc: Global,
+    world: &mut W,
+    job: &CheckJob,
+    steps: &mut D,
+) -> Result<Answer, SearchError>
+where
+    W: World,
+    D: StepSink + Drop,
+    requires bounds { are_bounds job.now.bounds ≡ true }
+    ensures ends { RequestEnds (Request.Check job.now)
+        (W.outside world.old) (W.outside world.new) (D.told steps.old) (D.told steps.new) result }
+    ensures bounded { GivesAtMost (most_given (Request.Check job.now))
+        (W.outside world.old) (W.outside world.new) }
+{
+    let files = job.files();
+    match Texts::read(alloc, world, files.as_slice()) {
+        Ok(texts) => check_texts(alloc, world, job, &texts, steps),
+        Err(stop) => stop.answer(),
+    }
+}
+
+/// What the run of a program comes to: its files are read whole, and then it is run.
+///
+/// The one error is want of memory.
+fn run_answer<W: World>(alloc: Global, world: &mut W, job: &RunJob) -> Result<Answer, SearchError>
+    requires bounds { are_bounds job.now.bounds ≡ true }
+    ensures ends { (t : Told) → RequestEnds (Request.Run job.now)
+        (W.outside world.old) (W.outside world.new) t t result }
+    ensures bounded { GivesAtMost (most_given (Request.Run job.now))
+        (W.outside world.old) (W.outside world.new) }
+{
+    let files = job.files();
+    match Texts::read(alloc, world, files.as_slice()) {
+        Ok(texts) => run_texts(alloc, job, &texts),
+        Err(stop) => stop.answer(),
+    }
+}
+
+/// What a ranking comes to: its files are read whole, and then the least sets of its runs are searched for.
+///
+/// `SinkFailed` comes only where the faults of `steps` rose; `Memory` for want of memory.
+fn rank_answer<W, D, R>(
+    alloc: Global,
+    world: &mut W,
+    job: &RankJob,
+    rules: R,
+    steps: &mut D,
+) -> Result<Answer, SearchError>
+where
+    W: World,
+    D: StepSink + Drop,
+    R: SearchRules + Drop,
+    requires job { MayBeRanked job.now }
+    requires rules { R.are_rules rules }
+    ensures ends { RequestEnds (Request.Rank job.now)
+        (W.outside world.old) (W.outside world.new) (D.told steps.old) (D.told steps.new) result }
+    ensures bounded { GivesAtMost (most_given (Request.Rank job.now))
+        (W.outside world.old) (W.outside world.new) }
+{
+    let files = job.files();
+    match Texts::read(alloc, world, files.as_slice()) {
+        Ok(texts) => rank_texts(alloc, job, &texts, rules, steps),
+        Err(stop) => stop.answer(),
+    }
+}
+
+/// What a request comes to, before it is printed.
+///
+/// `SinkFailed` comes only where the faults of `steps` rose, or, where a certificate is named, those of
+/// `steps` and of the world's writing together; `Memory` for want of memory.
+fn request_answer<W, D, R>(
+    alloc: Global,
+    world: &mut W,
+    request: &Request,
+    rules: R,
+    steps: &mut D,
+) -> Result<Answer, SearchError>
+where
+    W: World,
+    D: StepSink + Drop,
+    R: SearchRules + Drop,
+    requires request { MayBeDone request.now }
+    requires rules { R.are_rules rules }
+    ensures ends { RequestEnds request.now
+        (W.outside world.old) (W.outside world.new) (D.told steps.old) (D.told steps.new) result }
+    ensures bounded { GivesAtMost (most_given request.now)
+        (W.outside world.old) (W.outside world.new) }
+{
+    match request {
+        Request::Refused => Ok(Answer::BadWords),
+        Request::Sample(additions) => sample_answer(alloc, world, *additions, rules, steps),
+        Request::Localise(job) => localise_answer(alloc, world, job, rules, steps),
+        Request::Check(job) => check_answer(alloc, world, job, steps),
+        Request::Run(job) => run_answer(alloc, world, job),
+        Request::Rank(job) => rank_answer(alloc, world, job, rules, steps),
+    }
+}
+
+/// What a call comes to, before it is printed: it reads the words, and then does what they ask for, by the restart rule
+/// that they name.
 ///
 /// `SinkFailed` comes only where the faults of `steps` rose, or, where a certificate is written,
 /// those of `steps` and of the world's writing together; `Memory` for want of memory.
@@ -152,32 +209,20 @@ where
     ensures bounded { GivesAtMost (most_given (asked_by words.now))
         (W.outside world.old) (W.outside world.new) }
 {
-    match read_request(alloc, words)? {
-        Request::Refused => Ok(Answer::BadWords),
-        Request::Sample(additions) => {
-            let Rules { luby, keep, .. } = rules;
-            let rules = RulesBy {
-                restart: luby,
-                keep,
-            };
-            sample_answer(alloc, world, additions, steps, rules)
-        }
-        Request::Wanted(job) => {
-            let Rules { luby, steady, keep } = rules;
-            if job.steady {
-                let rules = RulesBy {
-                    restart: steady,
-                    keep,
-                };
-                job_answer(alloc, world, &job, steps, rules)
-            } else {
-                let rules = RulesBy {
-                    restart: luby,
-                    keep,
-                };
-                job_answer(alloc, world, &job, steps, rules)
-            }
-        }
+    let request = read_request(alloc, words)?;
+    let Rules { luby, steady, keep } = rules;
+    if request.is_steady() {
+        let rules = RulesBy {
+            restart: steady,
+            keep,
+        };
+        request_answer(alloc, world, &request, rules, steps)
+    } else {
+        let rules = RulesBy {
+            restart: luby,
+            keep,
+        };
+        request_answer(alloc, world, &request, rules, steps)
     }
 }
 
@@ -206,24 +251,28 @@ fn finish<W: World>(alloc: Global, world: &mut W, answer: &Answer) -> Status
     }
 }
 
-/// Reads a program and a failing input, and prints the sets of statements of least weight whose
-/// change could repair that run; or judges a certificate of them, and prints what it claims; or runs the
-/// program on the input, and prints how it fails. Or it makes a sample program, and prints how many such
-/// sets it has.
+/// Does what the words ask for, prints one text, and answers how the program then ends.
 ///
-/// In this order it reads the words; the files of the program, of the input and of the weights,
-/// each of them whole; the program, the input and the weights from their texts. It counts the
-/// program's units, runs it as written, and if that run fails and it is to localise, it searches. The
-/// search hands its derivation to `steps`: the formula, and then each step as it is made. If a
-/// certificate is asked for, it is begun before the search, and each step is written to it before it is
-/// handed on; it is whole before anything is printed. If it is to check, it hands the formula to `steps`
-/// and no step, and then reads the certificate in pieces and judges it over that formula, up to its first
-/// refused line.
+/// - `localise`: reads a program and a failing input, and prints the sets of statements of least weight whose change
+///   could repair that run.
+/// - `check`: judges a certificate of such sets, and prints what it claims.
+/// - `run`: runs the program on the input, and prints how it fails.
+/// - `rank`: reads several inputs, and ranks the statements by how many of the runs their change could repair.
+/// - `sample`: makes a sample program, and prints how many such sets it has.
 ///
-/// It prints one text, made whole before. Where `steps` or the certificate fails, nothing is
-/// printed, and both have the beginning of one derivation. Want of memory is the one answer that no
-/// clause ties to a cause. Every clause holds for all rules of the search that keep what is asked
-/// of them.
+/// It reads the words, and then the files of the program, of the input or inputs and of the weights, each of them
+/// whole. It reads program, input or inputs, and weights from their texts, in this order. It counts the program's
+/// units, and runs it as written on each input. If the runs fail, it searches, once for each input.
+///
+/// A search hands its derivation to `steps`: the formula, and then each step as it is made. A certificate is begun
+/// before the search, and each step is written to it before it is handed on. It is whole before anything is printed. A
+/// check hands the formula to `steps`, and no step. Then it reads the certificate in pieces and judges it over that
+/// formula, up to its first refused line.
+///
+/// The text is made whole before it is printed. Where `steps` or the certificate fails, nothing is printed. `steps` then
+/// has the derivations of a ranking's first inputs and the beginning of at most one more; a certificate has the
+/// beginning of its one. Want of memory is the one answer that no clause ties to a cause. Every clause holds for all
+/// rules of the search that keep what is asked of them.
 pub fn tool<W, D, L, G, K>(
     alloc: Global,
     words: &[&str],

@@ -27,7 +27,8 @@ impl Model for LiftedBool {
 
     ghost inverse = { λ value. record { code = code_of value } };
 
-    ghost inverse_ok = { λ value h. ap (λ code. record { code = code }) (code_of-lifted value.code h) };
+    ghost inverse_ok = { λ value h.
+        ap (λ code. record { code = code }) (code_of-lifted value.code h) };
 }
 
 impl LiftedBool {

@@ -96,7 +96,10 @@ impl<F: FileSystem + Drop, O: Write + Drop> World for HostWorld<F, O> {
         ensures ok { IfOk result (λ count. self.new
             ≡ record self.old { reading = self.new.reading; given = raised self.old.given count }) }
         ensures failed { OnErr result (self.new
-            ≡ record self.old { reading = self.new.reading; read_faults = raised self.old.read_faults 1 }) }
+            ≡ record self.old {
+              reading = self.new.reading;
+              read_faults = raised self.old.read_faults 1;
+            }) }
         ensures fault { IfErr result (λ error. error ≡ WorldError.Failed) }
         ensures still { IsSome self.new.reading }
         ensures no_fall { self.old.read_faults ≤ self.new.read_faults }
@@ -133,7 +136,10 @@ impl<F: FileSystem + Drop, O: Write + Drop> World for HostWorld<F, O> {
             (known_bytes self.old.writing) (known_bytes self.new.writing) bytes.now }
         ensures ok { OnOk result (self.new ≡ record self.old { writing = self.new.writing }) }
         ensures failed { OnErr result (self.new
-            ≡ record self.old { writing = self.new.writing; write_faults = raised self.old.write_faults 1 }) }
+            ≡ record self.old {
+              writing = self.new.writing;
+              write_faults = raised self.old.write_faults 1;
+            }) }
         ensures fault { IfErr result (λ error. error ≡ WorldError.Failed) }
         ensures still { IsSome self.new.writing }
         ensures no_fall { self.old.write_faults ≤ self.new.write_faults }
@@ -149,7 +155,10 @@ impl<F: FileSystem + Drop, O: Write + Drop> World for HostWorld<F, O> {
         ensures prefix { AppendsPrefix self.old.output self.new.output bytes.now }
         ensures ok { OnOk result (self.new ≡ record self.old { output = self.new.output }) }
         ensures failed { OnErr result (self.new
-            ≡ record self.old { output = self.new.output; write_faults = raised self.old.write_faults 1 }) }
+            ≡ record self.old {
+              output = self.new.output;
+              write_faults = raised self.old.write_faults 1;
+            }) }
         ensures fault { IfErr result (λ error. error ≡ WorldError.Failed) }
         ensures no_fall { self.old.write_faults ≤ self.new.write_faults }
     {

@@ -221,7 +221,10 @@ impl Model for MemoryWorld {
     ghost view = { λ world. record {
       files = world.files.items;
       reading = option_map
-          (λ reading. record { name = name_at world.files.items reading.file; offset = reading.offset })
+          (λ reading. record {
+            name = name_at world.files.items reading.file;
+            offset = reading.offset;
+          })
           world.reading;
       writing = option_map (name_at world.files.items) world.writing;
       printed = world.printed.items;

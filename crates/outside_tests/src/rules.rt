@@ -4,7 +4,7 @@ ghost use Rattle.std.specs.Prelude.{◌↔◌, ◌≤◌, IsTrue};
 
 use crate::support::calls::world_of;
 use ba_answers::status::Status;
-use ba_jobs::rules::{Rules, keep, luby, steady};
+use ba_rules::rules::{Rules, keep, luby, steady};
 use ba_steps::NoSink;
 use ba_tool::tool::tool;
 use std::alloc::Global;

@@ -1,6 +1,6 @@
 //! Samples.
 
-use ba_jobs::samples::sample_text;
+use ba_samples::sample_text;
 use std::panic::Expect;
 
 #[test]

@@ -1,9 +1,16 @@
 //! That the laws of answers can be called.
 
-use ba_tool::laws::{answer_of_sample, one_answer};
+use ba_cases::laws::{one_case_answer, undecided_runs_fail};
+use mode_localise::laws::{answer_of_sample, one_answer};
+use mode_rank::laws::one_ranking;
+use mode_run::laws::one_run_answer;
 
 #[test]
 fn laws_return(_rt: HostRuntime) {
+    one_case_answer();
+    undecided_runs_fail();
+    one_run_answer();
     one_answer();
     answer_of_sample();
+    one_ranking();
 }

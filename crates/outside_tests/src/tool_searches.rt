@@ -39,6 +39,46 @@ fn hands_on_the_steps_that_spend_the_conflicts(rt: HostRuntime) {
     assert_eq!(rt; ends, 1);
 }
 
+#[test]
+fn hands_on_a_derivation_for_each_input(rt: HostRuntime) {
+    let alloc = rt.alloc();
+    let mut world = world_of(
+        &rt,
+        alloc,
+        BRANCHES,
+        "1\n# the same once more\n1\n",
+        &[],
+        4096,
+    );
+    let mut steps = ListSink::new(alloc);
+    let words = ["rank", "p.c", "in.txt", "--bound=1"];
+    assert_eq!(rt; end(alloc, &words, &mut world, &mut steps), Status::Ok);
+    let ends = steps
+        .steps()
+        .iter()
+        .filter(|step| matches!(step, CertStep::EndLocated { .. }))
+        .count();
+    assert_eq!(rt; ends, 2);
+    match steps.over() {
+        [one, other] => assert!(rt; are_same(one, other)),
+        _ => panic!(rt; "not two formulas"),
+    }
+    // The inputs are one, and so are the rules of both searches: they take the same steps.
+    let (first, second) = steps.steps().split_at(steps.steps().len() / 2);
+    assert_eq!(rt; first.len(), second.len());
+    for (one, other) in first.iter().zip(second) {
+        assert_eq!(rt;
+            line_of(&rt, alloc, one).as_slice(),
+            line_of(&rt, alloc, other).as_slice()
+        );
+    }
+}
+
+/// The line of a step in a certificate.
+fn line_of(rt: &impl Abort, alloc: Global, step: &CertStep) -> Vec<u8> {
+    step_text(alloc, step).expect(rt, "memory")
+}
+
 /// Whether formulas and soft literals are the same.
 fn are_same(one: &Basis, other: &Basis) -> bool {
     let clauses = one.formula.len();

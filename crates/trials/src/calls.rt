@@ -2,7 +2,7 @@
 
 use anyhow::Result;
 use ba_answers::status::Status;
-use ba_jobs::rules::{Rules, keep, luby, steady};
+use ba_rules::rules::{Rules, keep, luby, steady};
 use ba_steps::NoSink;
 use ba_tool::tool::tool;
 use ba_world::{HostWorld, RuntimeFiles};

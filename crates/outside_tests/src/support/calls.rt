@@ -6,7 +6,7 @@ ghost use Rattle.std.specs.String.{string_bytes};
 use crate::support::counted::Counted;
 use crate::support::programs::BRANCHES;
 use ba_answers::status::Status;
-use ba_jobs::rules::{Rules, keep, luby, steady};
+use ba_rules::rules::{Rules, keep, luby, steady};
 use ba_steps::{NoSink, StepSink};
 use ba_tool::tool::tool;
 use ba_world::{MemoryWorld, World};

@@ -3,8 +3,8 @@
 use crate::searches::report::{Report, Verdict};
 use ba_checker::{Checked, Checker};
 use ba_items::Items;
-use ba_jobs::rules::{keep, luby};
 use ba_lits::{Formula, Lit, Model};
+use ba_rules::rules::{keep, luby};
 use ba_search::{Answer, Search, SearchError};
 use ba_steps::{CertStep, NoSink};
 use std::alloc::Global;

@@ -1,7 +1,7 @@
 use Rattle.std.proofs.Common.{inl, inr, refl, rules}
 use Rattle.ba_tool.specs.Calls.{memory, write_fault}
 use Rattle.ba_tool.proofs.Ending.{comes_write, ends_says}
-use Rattle.ba_tool.proofs.SampleAnswers.{ends_where}
+use Rattle.ba_tool.proofs.Due.{ends_where}
 use Rattle.ba_tool.proofs.tool.tool.Goals as goal
 
 pub returns-in-Ok-clause-says : goal.returns-in-Ok-clause-says
@@ -43,7 +43,6 @@ returns-in-Err-SinkFailed-clause-where_told g c =
     record {
       due = λ a is. write_fault refl (search (rules, fault));
       failing = λ failing. write_fault refl (search (rules, fault));
-      sample = λ additions asked. write_fault refl (search (rules, fault));
       checking = λ name file checking told. write_fault refl (search (rules, fault));
     }
 
@@ -51,6 +50,5 @@ pub returns-in-Err-Memory-clause-where_told : goal.returns-in-Err-Memory-clause-
 returns-in-Err-Memory-clause-where_told g c = record {
   due = λ a is. memory refl;
   failing = λ failing. memory refl;
-  sample = λ additions asked. memory refl;
   checking = λ name file checking told. memory refl;
 }

@@ -9,7 +9,7 @@ invariant_of-result c =
     let same : map rc_value c.in_ok-from_clones.field-0.items ≡ map rc_value c.self.inside.chunks.items =
     clones-same rc_value c.as_slice.result.now c.in_ok-from_clones.field-0.items
     c.in_ok-from_clones.ensures.items ∙ ap (map rc_value) c.as_slice.ensures.value in
-    subst (AreChunks 32) (sym same) c.self.invariant
+    subst (AreChunks 128) (sym same) c.self.invariant
 
 pub returns : goal.returns
 returns c =

@@ -1,8 +1,15 @@
-use Rattle.std.proofs.Common.{ℕ, ◌+◌, ◌-◌, List, ap, subst, sym, ◌∙◌, ◌++◌, ◌∷◌, []}
-use Rattle.ba_learn.specs.Resolving.{Work, IsWork, Resolves}
+use Rattle.std.proofs.Common.{ℕ, ◌+◌, ◌-◌, ◌≡◌, ap, subst, sym, ◌∙◌, ◌++◌, ◌∷◌, []}
+use Rattle.std.proofs.lemmas.Result.{on_ok_weaker}
+use Rattle.ba_learn.specs.Resolving.{Work, IsWork, Resolves, with_resolved}
 use Rattle.ba_learn.proofs.ReasonLaws.{reason_live, reason_below}
 use Rattle.ba_learn.proofs.ResolveLaws.{pending_reason, resolved_resolves, resolved_work}
 use Rattle.ba_learn.proofs.resolution.Resolution.resolve_pending.Goals as goal
+
+-- one pending place fewer, and one resolved more
+less : {v w : Work} (place : ℕ) → v ≡ w → with_resolved (record v { pending = v.pending - 1 }) place
+    ≡ record w { pending = w.pending - 1; resolved = w.resolved ++ place ∷ [] }
+less place is = ap (λ (w : Work).
+    record w { pending = w.pending - 1; resolved = w.resolved ++ place ∷ [] }) is
 
 pub reason_at-reason-requires-clause-reason : goal.reason_at-reason-requires-clause-reason
 reason_at-reason-requires-clause-reason c =
@@ -24,44 +31,20 @@ meet_all-requires-clause-may c = (
 
 pub returns-clause-resolves : goal.returns-clause-resolves
 returns-clause-resolves c =
-    let i = c.self.inside in
     let r = c.requires in
-    subst (λ (w : Work). Resolves c.args.watch.now c.args.self.now w)
-    (sym (ap (λ (xs : List ℕ). record {
-      seen = i.seen;
-      floor = i.floor;
-      deep = i.deep;
-      pending =
-          i.pending - 1;
-      kept = i.kept.items;
-      resolved = xs;
-      waiting = i.waiting.items;
-    })
-    c.in_ok-push.ensures.items
-    ∙ ap (λ (w : Work). record w { pending = w.pending - 1; resolved = w.resolved ++ c.args.place ∷ [] })
-    c.self.view_is))
+    on_ok_weaker c.push_resolved.result
+    (λ is. subst (Resolves c.args.watch.now c.args.self.now) (sym (is ∙ less c.args.place c.self.view_is))
     (resolved_resolves c.args.watch.now c.args.self.now c.meet_all.new.self c.args.place
     c.reason_at-reason.result c.keeps_facts.ensures c.reason_at-reason.ensures r.work r.seen r.floor
-    c.in_ok-meet_all.ensures)
+    c.in_ok-meet_all.ensures))
+    c.push_resolved.ensures
 
 pub returns-clause-work : goal.returns-clause-work
 returns-clause-work c =
-    let i = c.self.inside in
     let r = c.requires in
-    subst (λ (w : Work). IsWork c.args.watch.now c.args.place w)
-    (sym (ap (λ (xs : List ℕ). record {
-      seen = i.seen;
-      floor = i.floor;
-      deep = i.deep;
-      pending =
-          i.pending - 1;
-      kept = i.kept.items;
-      resolved = xs;
-      waiting = i.waiting.items;
-    })
-    c.in_ok-push.ensures.items
-    ∙ ap (λ (w : Work). record w { pending = w.pending - 1; resolved = w.resolved ++ c.args.place ∷ [] })
-    c.self.view_is))
+    on_ok_weaker c.push_resolved.result
+    (λ is. subst (IsWork c.args.watch.now c.args.place) (sym (is ∙ less c.args.place c.self.view_is))
     (resolved_work c.args.watch.now c.args.self.now c.meet_all.new.self c.args.place
     c.reason_at-reason.result c.keeps_facts.ensures c.reason_at-reason.ensures r.work r.seen r.floor
-    c.in_ok-meet_all.ensures r.shallow)
+    c.in_ok-meet_all.ensures r.shallow))
+    c.push_resolved.ensures

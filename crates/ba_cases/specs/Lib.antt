@@ -1,0 +1,5 @@
+pub mod Programs
+pub mod AtOnce
+pub mod Cases
+pub mod Reading
+pub mod Searching

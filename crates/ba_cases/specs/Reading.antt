@@ -1,0 +1,74 @@
+-- THE FILES OF A CALL are read whole, and then their texts come to the answer. Which files they are and what is said of
+-- their texts is the mode's.
+
+use Rattle.std.specs.Prelude.{◌≡◌, ℕ, Option, None, Some, List, [], ◌∷◌, length, ◌≤◌}
+use Rattle.ba_answers.specs.Limits.{limit}
+use Rattle.ba_answers.specs.declared.answers.Answer.{Answer}
+use Rattle.ba_answers.specs.declared.file.File.{File}
+use Rattle.ba_answers.specs.declared.file.File.TheVariants as file
+use Rattle.ba_commands.specs.Modes.{Word}
+use Rattle.ba_files.specs.Files.{AreRead, StopsAt, TellsAll, TellsStop, answer_for}
+use Rattle.ba_files.specs.declared.files.Named.{Named}
+use Rattle.ba_derivations.specs.Handing.{Derivation}
+use Rattle.ba_tree.specs.declared.tree.Program.{Program}
+use Rattle.ba_tree_laws.specs.Spelling.{Spells}
+use Rattle.ba_world.specs.World.{Outside}
+use Rattle.ba_world.specs.declared.read.ReadFileError.{ReadFileError}
+use Rattle.ba_cases.specs.declared.stop.Stop.{Stop}
+use Rattle.ba_cases.specs.declared.stop.Stop.TheVariants as stop
+use Rattle.ba_cases.specs.declared.texts.Texts.{Texts}
+
+-- the files of a program, of its input or inputs, and of its weights; and their texts in this order
+abbrev pub files_for : Word → File → Word → Option Word → List Named
+files_for program which input weights =
+    record { file = file.Program; name = Some program } ∷ record { file = which; name = Some input }
+    ∷ record { file = file.Weights; name = weights } ∷ []
+
+abbrev pub parts_of : Texts → List (List ℕ)
+parts_of x = x.program ∷ x.input ∷ x.weights ∷ []
+
+pub record AreShort (x : Texts) : Type 0 where
+  pub program : length x.program ≤ limit
+  pub input : length x.input ≤ limit
+
+-- A FILE WASN'T READ, and this is the answer; want of memory tells nothing
+pub record IsUnreadAs (files : List Named) (before after : Outside) (a : Answer) : Type 0 where
+  pub which : File
+  pub error : ReadFileError
+  pub stops : StopsAt which error files before after
+  pub answers : answer_for which error ≡ Some a
+
+abbrev pub IsUnread : List Named → Outside → Outside → Stop → Type 0
+IsUnread files before after (stop.Answered a) = IsUnreadAs files before after a
+IsUnread files before after stop.Memory = Unit {0}
+
+-- WHAT FILES COME TO: one wasn't read; or all were, and their texts come to the answer by what is read then, with
+-- the derivations that were handed to the sink of steps
+pub data FilesComeTo (files : List Named) (row : Texts → Outside → Outside → List Derivation → Answer → Type 0)
+    (before after : Outside) (handed : List Derivation) (a : Answer) : Type 0
+  where
+    unread : IsUnreadAs files before after a → handed ≡ [] → FilesComeTo files row before after handed a
+    by_texts : (x : Texts) (read : Outside) → AreRead files (parts_of x) before read →
+        row x read after handed a → FilesComeTo files row before after handed a
+
+-- texts that come to an answer by themselves: no more is read
+abbrev pub Unaided : (Texts → List Derivation → Answer → Type 0) → Texts → Outside → Outside →
+    List Derivation → Answer → Type 0
+Unaided row x read after handed a = (after ≡ read) × row x handed a
+
+-- THE ANSWER THAT IS DUE to files that the world tells: one for their texts; or that one can't be read, or is too
+-- long
+pub data FilesAreDue (files : List Named) (row : Texts → Answer → Type 0) (before : Outside) (a : Answer) :
+    Type 0 where
+  of_texts : (x : Texts) → TellsAll before files (parts_of x) → row x a → FilesAreDue files row before a
+  stopped : (which : File) (error : ReadFileError) → TellsStop which error before files →
+      answer_for which error ≡ Some a → FilesAreDue files row before a
+
+-- the world tells all files, and their program has no answer at once
+pub record TellsUndecided (files : List Named) (first : Texts → Program → Option Answer) (before : Outside) :
+    Type 0 where
+  pub texts : Texts
+  pub told : TellsAll before files (parts_of texts)
+  pub program : Program
+  pub spelled : Spells texts.program program
+  pub undecided : first texts program ≡ None

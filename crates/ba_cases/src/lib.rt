@@ -1,0 +1,18 @@
+//! What the texts of a call come to before any search: the program that a text spells, its input and its weights, or the
+//! answer that is given at once.
+#![tactic(auto)]
+
+mod cases;
+pub mod laws;
+mod parts;
+mod programs;
+mod stop;
+mod texts;
+
+pub use cases::{Case, read_case};
+pub use parts::{
+    check_failing, check_size, plain_run, position_of, read_one_input, read_weights_of,
+};
+pub use programs::read_program;
+pub use stop::Stop;
+pub use texts::{Texts, files_for};

@@ -1,0 +1,30 @@
+-- DERIVATIONS that are handed to a sink of steps.
+
+use Rattle.std.specs.Prelude.{◌≡◌, ℕ, List}
+use Rattle.ba_checker.specs.Puts.{with_steps}
+use Rattle.ba_choices.specs.Judges.{Judge}
+use Rattle.ba_steps.specs.Sinks.{Told, with_told}
+use Rattle.ba_steps.specs.declared.sink.Basis.{Basis}
+use Rattle.ba_steps.specs.declared.step.CertStep.{CertStep}
+use Rattle.ba_derivations.specs.Derivations.{Problem}
+
+-- A DERIVATION: a formula with its soft literals, and steps over it
+pub record Derivation : Type 0 where
+  pub begun : Basis
+  pub steps : List CertStep
+
+-- it was handed to a sink: the formula was begun, and each log has the steps more
+pub record Hands (d : Derivation) (old new : Told) : Type 0 where
+  pub over : new.over ≡ with_told d.begun old.over
+  pub logs : new.logs ≡ with_steps d.steps old.logs
+
+-- the problem that it is about, where runs are good as a judge says, and so many conflicts and sets are
+-- allowed
+abbrev pub problem_of : Derivation → Judge → ℕ → ℕ → Problem
+problem_of d good conflicts most = record {
+  formula = d.begun.formula;
+  softs = d.begun.softs;
+  good = good;
+  conflicts = conflicts;
+  most_sets = most;
+}

@@ -1,5 +1,0 @@
-pub mod Jobs
-pub mod Samples
-pub mod Luby
-pub mod Files
-pub mod Rules

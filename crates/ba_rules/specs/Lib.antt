@@ -1,0 +1,2 @@
+pub mod Luby
+pub mod Rules

@@ -1,0 +1,84 @@
+//! Rules of a search: those that a caller of the program may choose, and those of the program
+//! itself.
+
+ghost use Rattle.std.specs.Prelude.{◌≡◌, ◌↔◌, ◌⊎◌, ℕ, ◌+◌, ◌*◌, ◌≤◌, ◌<◌, ◌^◌, IsTrue};
+ghost use Rattle.ba_search.specs.Rules.{IsKeepRule, IsRestartRule};
+ghost use Rattle.ba_rules.specs.Luby.{IsLubyTerm};
+
+/// When a search restarts, and which learnt clauses it keeps. What the program promises holds for
+/// all such rules; how soon a search ends depends on them.
+#[derive(Drop)]
+pub struct Rules<L, G, K> {
+    /// How many conflicts the search has before it restarts, by the number of restarts so far,
+    /// where restarts follow Luby's sequence.
+    pub luby: L,
+    /// The same, where they come at a steady pace.
+    pub steady: G,
+    /// Whether a learnt clause is kept, by its width and by its age, which is how many clauses were
+    /// learnt after it.
+    pub keep: K,
+}
+
+impl<L: Fn(u64) -> u64, G: Fn(u64) -> u64, K: Fn(u64, u64) -> bool> Rules<L, G, K> {
+    /// The rules that these functions are: each restart rule may be asked at every number of
+    /// restarts and answers at least 1, and the keep rule keeps clauses of at most two literals.
+    pub fn new(luby: L, steady: G, keep: K) -> Rules<L, G, K>
+        requires luby { IsRestartRule (L.pre luby) (L.post luby) }
+        requires steady { IsRestartRule (G.pre steady) (G.post steady) }
+        requires keep { IsKeepRule (K.pre keep) (K.post keep) }
+        ensures luby { result.luby ≡ luby }
+        ensures steady { result.steady ≡ steady }
+        ensures keep { result.keep ≡ keep }
+    {
+        Rules { luby, steady, keep }
+    }
+}
+
+/// A term of Luby's sequence 1, 1, 2, 1, 1, 2, 4, .., counted from 1 (Luby, Sinclair and Zuckerman,
+/// "Optimal speedup of Las Vegas algorithms").
+fn luby_term(number: u64) -> u64
+    requires from { 1 ≤ number }
+    requires to { number < 2 ^ 32 }
+    ensures term { IsLubyTerm number result }
+    ensures positive { 1 ≤ result }
+    ensures small { result ≤ number }
+{
+    let mut half = 1;
+    while 2 * half <= number {
+        half *= 2;
+    }
+    if number + 1 == 2 * half {
+        half
+    } else {
+        luby_term(number - half + 1)
+    }
+}
+
+/// Restarts by Luby's sequence, in hundreds of conflicts, and from a million restarts on after a
+/// hundred each.
+pub fn luby(restarts: u64) -> u64
+    ensures early { restarts < 1000000 → (term : ℕ) × IsLubyTerm (restarts + 1) term
+        × (result ≡ 100 * term) }
+    ensures late { 1000000 ≤ restarts → result ≡ 100 }
+    ensures positive { 1 ≤ result }
+{
+    if restarts < 1_000_000 {
+        100 * luby_term(restarts + 1)
+    } else {
+        100
+    }
+}
+
+/// A restart after each thousand conflicts.
+pub fn steady(_restarts: u64) -> u64
+    ensures { result ≡ 1000 }
+{
+    1000
+}
+
+/// Narrow clauses are kept, and young ones.
+pub fn keep(width: u64, age: u64) -> bool
+    ensures { IsTrue result ↔ ((width ≤ 6) ⊎ (age < 4000)) }
+{
+    width <= 6 || age < 4000
+}

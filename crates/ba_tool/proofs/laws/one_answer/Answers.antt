@@ -1,5 +1,0 @@
-use Rattle.ba_tool.proofs.OneAnswer.{one_answer}
-use Rattle.ba_tool.proofs.laws.one_answer.Goals as goal
-
-pub returns : goal.returns
-returns c = one_answer

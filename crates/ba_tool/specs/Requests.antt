@@ -1,0 +1,93 @@
+-- WHAT THE WORDS of a call ask for.
+
+use Rattle.std.specs.Prelude.{◌≡◌, ◌≤◌, Bool, true, false, Option, None, Some, List, []}
+use Rattle.ba_cert.specs.Writing.{no_head}
+use Rattle.ba_cert.specs.declared.head.CertHead.{CertHead}
+use Rattle.ba_commands.specs.Commands.{command_of}
+use Rattle.ba_commands.specs.Modes.{Word}
+use Rattle.ba_commands.specs.declared.commands.Command.{Command}
+use Rattle.ba_commands.specs.declared.commands.Command.TheVariants as command
+use Rattle.ba_files.specs.declared.files.Named.{Named}
+use Rattle.ba_tree.specs.Run.{are_bounds}
+use Rattle.mode_check.specs.Jobs as check
+use Rattle.mode_localise.specs.Jobs as localise
+use Rattle.mode_localise.specs.declared.jobs.Telling.TheVariants as telling
+use Rattle.mode_rank.specs.Jobs as rank
+use Rattle.mode_run.specs.Runs as run
+use Rattle.ba_tool.specs.declared.requests.Request.{Request}
+use Rattle.ba_tool.specs.declared.requests.Request.TheVariants as request
+
+-- what a command asks for, if words are one
+abbrev pub request_by : Option Command → Request
+request_by None = request.Refused
+request_by (Some (command.Localise program input bounds weights conflicts sets cert runs steady)) =
+    request.Localise (record {
+      program = program;
+      input = input;
+      weights = weights;
+      bounds = bounds;
+      conflicts = conflicts;
+      sets = sets;
+      cert = cert;
+      telling = telling.Report runs;
+      steady = steady;
+    })
+request_by (Some (command.Check program input cert bounds weights conflicts sets)) =
+    request.Check (record {
+      program = program;
+      input = input;
+      cert = cert;
+      weights = weights;
+      bounds = bounds;
+      conflicts = conflicts;
+      sets = sets;
+    })
+request_by (Some (command.Run program input bounds)) =
+    request.Run (record { program = program; input = input; bounds = bounds })
+request_by (Some (command.Rank program inputs bounds weights conflicts sets steady)) =
+    request.Rank (record {
+      program = program;
+      inputs = inputs;
+      weights = weights;
+      bounds = bounds;
+      conflicts = conflicts;
+      sets = sets;
+      steady = steady;
+    })
+request_by (Some (command.Sample additions)) = request.Sample additions
+
+-- WHAT IS ASKED FOR: the words are refused exactly where they are no command
+abbrev pub request_of : List Word → Request
+request_of words = request_by (command_of words)
+
+-- the files that are read whole, in their order
+abbrev pub files_in : Request → List Named
+files_in (request.Localise j) = localise.files_of j
+files_in (request.Check j) = check.files_of j
+files_in (request.Run j) = run.files_of j
+files_in (request.Rank j) = rank.files_of j
+files_in _ = []
+
+-- whether restarts come at a steady pace; else they follow Luby's sequence, as those of a sample do
+abbrev pub steady_of : Request → Bool
+steady_of (request.Localise j) = j.steady
+steady_of (request.Rank j) = j.steady
+steady_of _ = false
+
+-- the name of the certificate that is written, where one is asked for, and its settings
+abbrev pub cert_of : Request → Option Word
+cert_of (request.Localise j) = j.cert
+cert_of _ = None
+
+abbrev pub head_in : Request → CertHead
+head_in (request.Localise j) = localise.head_by j
+head_in _ = no_head
+
+-- WHAT IS ASKED OF A REQUEST, which holds of all that words ask for
+abbrev pub MayBeDone : Request → Type 0
+MayBeDone request.Refused = Unit {0}
+MayBeDone (request.Sample additions) = additions ≤ 500
+MayBeDone (request.Localise j) = localise.MayBeDone j
+MayBeDone (request.Check j) = are_bounds j.bounds ≡ true
+MayBeDone (request.Run j) = are_bounds j.bounds ≡ true
+MayBeDone (request.Rank j) = rank.MayBeDone j

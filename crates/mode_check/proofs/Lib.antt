@@ -1,0 +1,3 @@
+mod Feeding
+mod Concluding
+pub mod Checking

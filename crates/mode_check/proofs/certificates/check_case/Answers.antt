@@ -1,0 +1,73 @@
+use Rattle.std.proofs.Common.{inr, ◌∙◌, sym}
+use Rattle.mode_check.proofs.Concluding.{check_ends, faithful_case, judging_over, memory_ends, only_same, outlasts_same, refusal_ends, stops_at_once, stops_check}
+use Rattle.mode_check.proofs.certificates.check_case.Goals as goal
+
+pub new-requires-clause-selectors : goal.new-requires-clause-selectors
+new-requires-clause-selectors g c = c.in_ok-encoded.ensures.faithful.selectors
+
+pub returns-in_err-encoded-clause-ends : goal.returns-in_err-encoded-clause-ends
+returns-in_err-encoded-clause-ends g c = λ x is.
+    let j = c.args.job.now in
+    let o = g.W.World.outside c.args.world.now in
+    let t = g.D.StepSink.told c.args.steps.now in
+    memory_ends j x o o t t (stops_at_once j x o t) (outlasts_same t) c.from_residual.result
+    c.from_residual.ensures.1
+
+pub returns-in_err-softs-clause-ends : goal.returns-in_err-softs-clause-ends
+returns-in_err-softs-clause-ends g c = λ x is.
+    let j = c.args.job.now in
+    let o = g.W.World.outside c.args.world.now in
+    let t = g.D.StepSink.told c.args.steps.now in
+    memory_ends j x o o t t (stops_at_once j x o t) (outlasts_same t) c.from_residual-in_err-softs.result
+    c.from_residual-in_err-softs.ensures.1
+
+pub returns-in_err-confirm-clause-ends : goal.returns-in_err-confirm-clause-ends
+returns-in_err-confirm-clause-ends g c = λ x is.
+    let j = c.args.job.now in
+    let o = g.W.World.outside c.args.world.now in
+    let t = g.D.StepSink.told c.args.steps.now in
+    memory_ends j x o o t t (stops_at_once j x o t) (outlasts_same t) c.from_residual-in_err-confirm.result
+    c.from_residual-in_err-confirm.ensures.1
+
+pub returns-in_err-begin-clause-ends : goal.returns-in_err-begin-clause-ends
+returns-in_err-begin-clause-ends g c = λ x is.
+    let j = c.args.job.now in
+    let o = g.W.World.outside c.args.world.now in
+    let t = g.D.StepSink.told c.args.steps.now in
+    let u = g.D.StepSink.told c.begin.new.self in
+    refusal_ends j x o o t u
+    (stops_check j x c.args.case.now is c.in_ok-encoded.encoded c.formula.result.now c.as_slice.result.now
+    c.formula.ensures (c.as_slice.ensures.value ∙ c.in_ok-softs.ensures) c.in_ok-encoded.ensures o o t u
+    c.begin.ensures.logs_stay (only_same o) c.in_err-begin.ensures.refused) c.begin.ensures.outlasts
+    c.from_residual-in_err-begin.result c.in_err-begin.field-0.0 c.begin.result
+    c.from_residual-in_err-begin.ensures.1 c.in_err-begin.was c.begin.ensures.cause
+
+pub returns-in_err-file_answer-clause-ends : goal.returns-in_err-file_answer-clause-ends
+returns-in_err-file_answer-clause-ends g c = λ x is.
+    let j = c.args.job.now in
+    let o = g.W.World.outside c.args.world.now in
+    let after = g.W.World.outside c.file_answer.new.world in
+    let t = g.D.StepSink.told c.args.steps.now in
+    let u = g.D.StepSink.told c.begin.new.self in
+    memory_ends j x o after t u
+    (stops_check j x c.args.case.now is c.in_ok-encoded.encoded c.formula.result.now c.as_slice.result.now
+    c.formula.ensures (c.as_slice.ensures.value ∙ c.in_ok-softs.ensures) c.in_ok-encoded.ensures o after t u
+    c.begin.ensures.logs_stay c.file_answer.ensures.stays (inr c.in_ok-begin.ensures.told))
+    c.begin.ensures.outlasts c.from_residual-in_err-file_answer.result
+    c.from_residual-in_err-file_answer.ensures.1
+
+pub returns-clause-ends : goal.returns-clause-ends
+returns-clause-ends g c = λ x is.
+    let j = c.args.job.now in
+    let case = c.args.case.now in
+    let encoded = c.in_ok-encoded.encoded in
+    let o = g.W.World.outside c.args.world.now in
+    let after = g.W.World.outside c.file_answer.new.world in
+    let t = g.D.StepSink.told c.args.steps.now in
+    let u = g.D.StepSink.told c.begin.new.self in
+    check_ends j x case is encoded c.formula.result.now c.as_slice.result.now c.formula.ensures
+    (c.as_slice.ensures.value ∙ c.in_ok-softs.ensures) c.in_ok-encoded.ensures o after t u
+    c.begin.ensures.logs_stay c.file_answer.ensures.stays c.begin.ensures.outlasts
+    c.in_ok-file_answer.field-0 c.in_ok-begin.ensures.told
+    (c.in_ok-file_answer.ensures.answer (judging_over j x case encoded) (sym c.as_str.ensures)
+    c.in_ok-confirm.ensures.nothing_read (faithful_case j x case is encoded c.in_ok-encoded.ensures))

@@ -1,0 +1,16 @@
+-- A CERTIFICATE THAT IS TO BE CHECKED.
+
+use Rattle.std.specs.Prelude.{List}
+use Rattle.ba_answers.specs.declared.file.File.TheVariants as file
+use Rattle.ba_cases.specs.Reading.{files_for}
+use Rattle.ba_cert.specs.declared.head.CertHead.{CertHead}
+use Rattle.ba_files.specs.declared.files.Named.{Named}
+use Rattle.mode_check.specs.declared.jobs.CheckJob.{CheckJob}
+
+-- the files of a job that are read whole
+abbrev pub files_of : CheckJob → List Named
+files_of j = files_for j.program file.Input j.input j.weights
+
+-- its settings, as a certificate names them
+abbrev pub head_by : CheckJob → CertHead
+head_by j = record { bounds = j.bounds; conflicts = j.conflicts; sets = j.sets }

@@ -1,0 +1,231 @@
+//! The certificate of a check, judged as it is read.
+
+ghost use Rattle.std.specs.Prelude.{◌≡◌, ◌≤◌, ◌+◌, [], true, IfOk, IfErr};
+ghost use Rattle.ba_check.specs.Answers.{confirmed_of};
+ghost use Rattle.ba_check.specs.Readers.{seen};
+ghost use Rattle.ba_check.specs.Readings.{HasRead};
+ghost use Rattle.ba_derivations.specs.Derivations.{Verdict};
+ghost use Rattle.ba_derivations.specs.Encodings.{IsFaithful};
+ghost use Rattle.ba_world.specs.Read.{piece_size};
+ghost use Rattle.ba_world.specs.World.{OnlyReads, Outside};
+ghost use Rattle.ba_cases.specs.Cases.{IsCaseOf};
+ghost use Rattle.ba_cases.specs.Reading.{AreShort};
+ghost use Rattle.mode_check.specs.Certificates.{CertificateComesTo, IsFed, IsUnfed, Judging, claim_of, unfed_answer};
+ghost use Rattle.ba_answers.specs.Limits.{certificate_limit};
+ghost use Rattle.ba_files.specs.Files.{GivesAtMost};
+ghost use Rattle.ba_tree.specs.Least.{AreWeightsOf};
+ghost use Rattle.ba_tree.specs.Run.{are_bounds, fits};
+ghost use Rattle.mode_check.specs.Checks.{TextsEnd};
+
+use crate::jobs::CheckJob;
+use ba_answers::answers::{Answer, Claim};
+use ba_answers::file::{CERTIFICATE_LIMIT, File};
+use ba_cases::{Case, Texts, read_case};
+use ba_check::{CheckError, Confirm, Confirmed, Settings};
+use ba_encode::softs_of;
+use ba_formula::formula_of;
+use ba_search::SearchError;
+use ba_steps::StepSink;
+use ba_world::{ReadFileError, World, WorldError};
+use std::alloc::{AllocError, Global};
+
+/// Why a certificate wasn't read to its end.
+#[derive(Clone, Copy)]
+pub enum Unfed {
+    /// Its file can't be read, or is too long.
+    Unread(ReadFileError),
+    /// A line is refused.
+    Refused(CheckError),
+}
+
+impl From<WorldError> for Unfed {
+    ghost use Rattle.std.specs.Prelude.{◌≡◌};
+    ghost use Rattle.ba_world.specs.Read.{read_error};
+    ghost use Rattle.mode_check.specs.declared.certificates.Unfed.TheVariants.{Unread};
+
+    ghost from_gives = { λ cause error. error ≡ Unread (read_error cause) };
+
+    fn from(error: WorldError) -> Unfed {
+        Unfed::Unread(ReadFileError::from(error))
+    }
+}
+
+impl From<CheckError> for Unfed {
+    ghost use Rattle.std.specs.Prelude.{◌≡◌};
+    ghost use Rattle.mode_check.specs.declared.certificates.Unfed.TheVariants.{Refused};
+
+    ghost from_gives = { λ cause error. error ≡ Refused cause };
+
+    fn from(error: CheckError) -> Unfed {
+        Unfed::Refused(error)
+    }
+}
+
+/// How many bytes are read at a time.
+const BUFFER: usize = 4096;
+
+/// Feeds the file of this name to a reader of certificates that has read nothing: to its end, or to the
+/// piece in which its first refused line ends.
+fn feed_file<W: World>(world: &mut W, name: &str, confirm: &mut Confirm) -> Result<(), Unfed>
+    ensures fed { (j : Judging) → j.name ≡ name.now
+        → HasRead j.head j.problem [] (seen confirm.old)
+        → IfOk result
+        (λ _. IsFed j (W.outside world.old) (W.outside world.new) (seen confirm.new)) }
+    ensures unfed { (j : Judging) → j.name ≡ name.now
+        → HasRead j.head j.problem [] (seen confirm.old)
+        → IfErr result (λ unfed. IsUnfed j unfed (W.outside world.old) (W.outside world.new)) }
+    ensures bounded { (W.outside world.new).given
+        ≤ (W.outside world.old).given + (certificate_limit + piece_size) }
+    ensures stays { OnlyReads (W.outside world.old) (W.outside world.new) }
+{
+    world.open_file(name)?;
+    let mut given = 0;
+    let mut buffer = [0u8; BUFFER];
+    loop {
+        let count = world.next_piece(&mut buffer)?;
+        if count == 0 {
+            return Ok(());
+        }
+        given += count as u64;
+        if given > CERTIFICATE_LIMIT {
+            return Err(Unfed::Unread(ReadFileError::TooLong));
+        }
+        confirm.feed(&buffer[..count])?;
+    }
+}
+
+/// The answer where a certificate wasn't read to its end; none for want of memory.
+fn unfed_answer(unfed: Unfed) -> Option<Answer>
+    ensures { result ≡ unfed_answer unfed }
+{
+    match unfed {
+        Unfed::Unread(ReadFileError::Failed) => Some(Answer::Unreadable(File::Certificate)),
+        Unfed::Unread(ReadFileError::TooLong) => Some(Answer::TooLong(File::Certificate)),
+        Unfed::Refused(CheckError::Line { line, code }) => {
+            Some(Answer::BadCertificate { code, line })
+        }
+        Unfed::Unread(ReadFileError::Memory) | Unfed::Refused(CheckError::Memory) => None,
+    }
+}
+
+/// What a certificate claims that says this.
+fn claim_of(confirmed: &Confirmed) -> Claim
+    ensures { (verdict : Verdict) → confirmed.now ≡ confirmed_of verdict
+        → result ≡ claim_of verdict }
+{
+    match confirmed {
+        Confirmed::Located { .. } => Claim::Located,
+        Confirmed::NoRepair => Claim::NoRepair,
+        Confirmed::TooMany { .. } => Claim::TooManySets,
+        Confirmed::Spent => Claim::BudgetSpent,
+    }
+}
+
+/// The answer of a certificate that was read to its end.
+///
+/// The one error is want of memory.
+fn read_answer(confirm: Confirm) -> Result<Answer, AllocError>
+    ensures { (j : Judging) (old new : Outside) → IsFed j old new (seen confirm.entry)
+        → IsFaithful j.problem.formula j.problem.softs j.weights j.problem.good
+        → IfOk result (λ answer. CertificateComesTo j answer old new) }
+{
+    match confirm.finish() {
+        Ok(confirmed) => Ok(Answer::Accepted(claim_of(&confirmed))),
+        Err(CheckError::Line { line, code }) => Ok(Answer::BadCertificate { code, line }),
+        Err(CheckError::Memory) => Err(AllocError),
+    }
+}
+
+/// The answer of the certificate in the file of this name, by a reader that has read nothing.
+///
+/// The one error is want of memory.
+fn file_answer<W: World>(
+    world: &mut W,
+    name: &str,
+    mut confirm: Confirm,
+) -> Result<Answer, AllocError>
+    ensures answer { (j : Judging) → j.name ≡ name.now
+        → HasRead j.head j.problem [] (seen confirm.entry)
+        → IsFaithful j.problem.formula j.problem.softs j.weights j.problem.good
+        → IfOk result (λ answer. CertificateComesTo j answer
+        (W.outside world.old) (W.outside world.new)) }
+    ensures bounded { (W.outside world.new).given
+        ≤ (W.outside world.old).given + (certificate_limit + piece_size) }
+    ensures stays { OnlyReads (W.outside world.old) (W.outside world.new) }
+{
+    match feed_file(world, name, &mut confirm) {
+        Ok(()) => read_answer(confirm),
+        Err(unfed) => match unfed_answer(unfed) {
+            Some(answer) => Ok(answer),
+            None => Err(AllocError),
+        },
+    }
+}
+
+/// What the certificate of a job says of a case. The formula of the case is made and handed to `steps`,
+/// and no step; then the file is read in pieces, and judged over this formula, up to its first refused
+/// line.
+///
+/// `SinkFailed` comes only where the faults of `steps` rose; `Memory` for want of memory.
+fn check_case<W, D>(
+    alloc: Global,
+    world: &mut W,
+    job: &CheckJob,
+    case: &Case,
+    steps: &mut D,
+) -> Result<Answer, SearchError>
+where
+    W: World,
+    D: StepSink + Drop,
+    requires bounds { are_bounds job.now.bounds ≡ true }
+    requires fits { fits case.now.program case.now.input ≡ true }
+    requires weights { AreWeightsOf case.now.program case.now.weights.of }
+    ensures ends { (x : Texts) → IsCaseOf job.now.bounds x case.now → TextsEnd job.now x
+        (W.outside world.old) (W.outside world.new) (D.told steps.old) (D.told steps.new) result }
+    ensures bounded { GivesAtMost (certificate_limit + piece_size)
+        (W.outside world.old) (W.outside world.new) }
+    ensures stays { OnlyReads (W.outside world.old) (W.outside world.new) }
+{
+    let settings = Settings {
+        bounds: job.bounds,
+        conflicts: job.conflicts,
+        sets: job.sets,
+    };
+    let encoded = formula_of(alloc, &case.program, &case.input, job.bounds, &case.weights)?;
+    let softs = softs_of(alloc, &encoded)?;
+    let confirm = Confirm::new(alloc, &case.program, &case.input, settings, &encoded)?;
+    steps.begin(encoded.formula(), softs.as_slice())?;
+    Ok(file_answer(world, job.cert.as_str(), confirm)?)
+}
+
+/// What the certificate of a job says of the run of the program that these texts spell, which fails; or why it isn't
+/// judged.
+///
+/// In this order it reads the program, the input and the weights, counts the units, and runs the program as written. It
+/// hands the formula to `steps` and no step, and then reads the certificate in pieces and judges it over that formula, up
+/// to its first refused line.
+///
+/// `SinkFailed` comes only where the faults of `steps` rose; `Memory` for want of memory.
+pub fn check_texts<W, D>(
+    alloc: Global,
+    world: &mut W,
+    job: &CheckJob,
+    texts: &Texts,
+    steps: &mut D,
+) -> Result<Answer, SearchError>
+where
+    W: World,
+    D: StepSink + Drop,
+    requires short { AreShort texts.now }
+    requires bounds { are_bounds job.now.bounds ≡ true }
+    ensures ends { TextsEnd job.now texts.now (W.outside world.old) (W.outside world.new)
+        (D.told steps.old) (D.told steps.new) result }
+    ensures bounded { GivesAtMost (certificate_limit + piece_size)
+        (W.outside world.old) (W.outside world.new) }
+    ensures stays { OnlyReads (W.outside world.old) (W.outside world.new) }
+{
+    match read_case(alloc, texts, job.bounds) {
+        Ok(case) => check_case(alloc, world, job, &case, steps),
+        Err(stop) => stop.answer(),
+    }
+}

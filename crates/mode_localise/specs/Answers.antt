@@ -1,0 +1,67 @@
+-- WHAT A JOB COMES TO, where its files have these texts. It says nothing of a world.
+
+use Rattle.std.specs.Prelude.{◌≡◌, ◌⊎◌, ℕ, ◌+◌, Bool, false, None, List, [], ◌∷◌, length}
+use Rattle.ba_answers.specs.declared.answers.Answer.{Answer}
+use Rattle.ba_answers.specs.declared.answers.Answer.TheVariants as answer
+use Rattle.ba_cases.specs.AtOnce.{case_answer, input_of}
+use Rattle.ba_cases.specs.Searching.{IsAnswerOf}
+use Rattle.ba_cases.specs.declared.texts.Texts.{Texts}
+use Rattle.ba_choices.specs.Judges.{Judge}
+use Rattle.ba_derivations.specs.declared.verdict.FoundSet.{FoundSet}
+use Rattle.ba_derivations.specs.declared.verdict.Verdict.{Verdict}
+use Rattle.ba_derivations.specs.declared.verdict.Verdict.TheVariants.{Located, NoRepair, TooMany, Spent}
+use Rattle.ba_inputs.specs.Weights.{weights_in}
+use Rattle.ba_derivations.specs.Handing.{Derivation}
+use Rattle.ba_localise.specs.Verdicts.{Shows}
+use Rattle.ba_report.specs.Report.{report_text}
+use Rattle.ba_tree.specs.Least.{WeightList, judge_of}
+use Rattle.ba_tree.specs.declared.tree.Program.{Program}
+use Rattle.mode_localise.specs.Jobs.{sample_job}
+use Rattle.mode_localise.specs.declared.jobs.LocaliseJob.{LocaliseJob}
+use Rattle.mode_localise.specs.declared.jobs.Telling.{Telling}
+use Rattle.mode_localise.specs.declared.jobs.Telling.TheVariants as telling
+
+-- what the statements weigh, and which choices make a good run on the input where a set of statements is relaxed
+
+abbrev pub weights_of : Program → Texts → WeightList
+weights_of p x = weights_in p x.weights
+
+abbrev pub judge_in : LocaliseJob → Texts → Program → Judge
+judge_in j x p = judge_of p (input_of p x.input) j.bounds
+
+-- least sets are told by their report; those of a sample by what they weigh and how many they are
+abbrev pub sets_answer : Telling → List ℕ → Program → ℕ → List FoundSet → Answer
+sets_answer (telling.Report runs) source p weight sets = answer.Located (report_text source p runs weight sets)
+sets_answer (telling.Count additions) source p weight sets = answer.Sampled additions weight (length sets)
+
+-- THE ANSWER OF A VERDICT: the least sets; that there is no repair; that there are more least sets than may be
+-- listed, each of this weight; or that the conflicts that are allowed are spent
+abbrev pub verdict_answer : LocaliseJob → List ℕ → Program → Verdict → Answer
+verdict_answer j source p (Located weight sets) = sets_answer j.telling source p weight sets
+verdict_answer j source p NoRepair = answer.NoRepair
+verdict_answer j source p (TooMany weight sets) = answer.TooManySets weight j.sets None
+verdict_answer j source p Spent = answer.BudgetSpent j.conflicts None
+
+-- THE ROW OF A SEARCH: the derivation that was handed on shows the verdict that the answer tells
+pub record IsFound (j : LocaliseJob) (x : Texts) (p : Program) (handed : List Derivation) (a : Answer) : Type 0
+  where
+    pub derivation : Derivation
+    pub handed_is : handed ≡ derivation ∷ []
+    pub verdict : Verdict
+    pub shows : Shows (weights_of p x) (judge_in j x p) j.conflicts j.sets derivation verdict
+    pub tells : a ≡ verdict_answer j x.program p verdict
+
+-- THE ANSWERS of texts. Those of the same texts agree (`one_answer`).
+abbrev pub IsAnswer : LocaliseJob → Texts → List Derivation → Answer → Type 0
+IsAnswer j x = IsAnswerOf x.program (case_answer j.bounds x) (IsFound j x)
+
+-- whether runs are shown, which may be others
+abbrev pub shows_runs : Telling → Bool
+shows_runs (telling.Report runs) = runs
+shows_runs (telling.Count additions) = false
+
+-- THE ANSWER TO A SAMPLE with so many additions: it has one set more than these, each of weight 1; or its
+-- conflicts are spent
+abbrev pub IsAnswerOfSample : ℕ → Answer → Type 0
+IsAnswerOfSample n a =
+    (a ≡ answer.Sampled n 1 (n + 1)) ⊎ (a ≡ answer.BudgetSpent (sample_job n).conflicts None)

@@ -1,0 +1,4 @@
+pub mod Jobs
+pub mod Answers
+pub mod Certifying
+pub mod Leaving

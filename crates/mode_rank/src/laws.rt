@@ -1,0 +1,16 @@
+//! Laws of the answers: each a function whose clause is the law, and which does nothing.
+
+ghost use Rattle.std.specs.Prelude.{List, false};
+ghost use Rattle.ba_answers.specs.declared.answers.Answer.{Answer};
+ghost use Rattle.ba_cases.specs.Searching.{Agree};
+ghost use Rattle.ba_cases.specs.declared.texts.Texts.{Texts};
+ghost use Rattle.ba_derivations.specs.Handing.{Derivation};
+ghost use Rattle.mode_rank.specs.Answers.{IsAnswer};
+ghost use Rattle.mode_rank.specs.declared.jobs.RankJob.{RankJob};
+
+/// Texts come to one answer; but to the ranking of a search, or that one has too many sets, also that the conflicts of a
+/// search are spent.
+pub fn one_ranking()
+    ensures { (j : RankJob) (x : Texts) (handed others : List Derivation) (a b : Answer)
+        → IsAnswer j x handed a → IsAnswer j x others b → Agree false a b }
+{}
