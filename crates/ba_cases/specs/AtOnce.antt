@@ -1,8 +1,8 @@
--- THE ANSWER BEFORE ANY SEARCH: the first that is there of the refusal of the inputs, of the weights, and of the
--- program for its size, and of what its runs as written come to. It says nothing of a world.
+-- THE ANSWER BEFORE ANY SEARCH: the first that is there of four. These are the refusals of the inputs, of the weights
+-- and of the program for its size, and what its runs as written come to. It says nothing of a world.
 
 use Rattle.std.specs.Prelude.{◌≡◌, ℕ, nat_lt, if◌then◌else◌, Bool, true, false, Option, None, Some, option_map, List, [], ◌∷◌, Result, Ok, Err}
-use Rattle.ba_inputs.specs.Weights.{bad_line}
+use Rattle.ba_inputs.specs.Weights.{bad_line, weights_in}
 use Rattle.ba_numbers.specs.declared.ids.At.{At}
 use Rattle.ba_numbers.specs.declared.ids.StmtId.{StmtId}
 use Rattle.ba_search.specs.declared.search.SearchError.{SearchError}
@@ -10,6 +10,7 @@ use Rattle.ba_search.specs.declared.search.SearchError.TheVariants as error
 use Rattle.ba_tree.specs.Choices.{info_of}
 use Rattle.ba_tree.specs.Inputs.{InputFault as TextFault, input_fault, input_values}
 use Rattle.ba_tree.specs.Inputs as inputs
+use Rattle.ba_tree.specs.Least.{WeightList}
 use Rattle.ba_tree.specs.Run.{plain_run}
 use Rattle.ba_tree.specs.Units.{units_of}
 use Rattle.ba_tree.specs.declared.run.Bounds.{Bounds}
@@ -58,8 +59,8 @@ size_refusal p bounds = if nat_lt unit_limit (units_of p bounds) then Some answe
 abbrev pub position_of : Program → StmtId → Option At
 position_of p stmt = option_map (λ (info : StmtInfo). info.at) (info_of p stmt)
 
--- what a run comes to that was to fail, with the line of its input where there are several: it doesn't, or goes
--- past a bound
+-- what a run comes to that was to fail: it doesn't, or goes past a bound. If there are several inputs, the line of
+-- this one is named
 abbrev pub unfailing : Program → Option ℕ → Outcome → Option Answer
 unfailing p line outcome.Done = Some (answer.NotFailing line)
 unfailing p line (outcome.Beyond stmt) = option_map (λ at. answer.BeyondBound at line) (position_of p stmt)
@@ -85,6 +86,9 @@ at_once inputs weights bounds runs p =
 
 abbrev pub input_of : Program → List ℕ → Input
 input_of p text = record { values = input_values p text }
+
+abbrev pub weights_of : Program → Texts → WeightList
+weights_of p x = weights_in p x.weights
 
 abbrev pub run_in : Bounds → Texts → Program → Outcome
 run_in bounds x p = plain_run p (input_of p x.input) bounds

@@ -38,12 +38,12 @@ pub record IsUnreadAs (files : List Named) (before after : Outside) (a : Answer)
   pub stops : StopsAt which error files before after
   pub answers : answer_for which error ≡ Some a
 
-abbrev pub IsUnread : List Named → Outside → Outside → Stop → Type 0
-IsUnread files before after (stop.Answered a) = IsUnreadAs files before after a
-IsUnread files before after stop.Memory = Unit {0}
+abbrev pub StopsUnread : List Named → Outside → Outside → Stop → Type 0
+StopsUnread files before after (stop.Answered a) = IsUnreadAs files before after a
+StopsUnread files before after stop.Memory = Unit {0}
 
--- WHAT FILES COME TO: one wasn't read; or all were, and their texts come to the answer by what is read then, with
--- the derivations that were handed to the sink of steps
+-- WHAT FILES COME TO: one wasn't read, and this is the answer. Or all were, and their texts come to it by what is
+-- read then. These derivations were handed to the sink of steps
 pub data FilesComeTo (files : List Named) (row : Texts → Outside → Outside → List Derivation → Answer → Type 0)
     (before after : Outside) (handed : List Derivation) (a : Answer) : Type 0
   where

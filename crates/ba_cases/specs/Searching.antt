@@ -18,7 +18,7 @@ abbrev pub HandsAll : List Derivation → Told → Told → Type 0
 HandsAll [] old new = (new.over ≡ old.over) × (new.logs ≡ old.logs)
 HandsAll (d ∷ others) old new = (next : Told) × Hands d old next × HandsAll others next new
 
--- THE ANSWERS OF A TEXT: one at once, and no derivation was handed on; or its program has none, and the row of
+-- THE ANSWERS OF A TEXT: one at once, and then no derivation was handed on. Or its program has none, and the row of
 -- the searches holds
 pub data IsAnswerOf (source : List ℕ) (first : Program → Option Answer)
     (row : Program → List Derivation → Answer → Type 0) (handed : List Derivation) (a : Answer) : Type 0
@@ -37,8 +37,8 @@ IsOfSearch (answer.TooManySets weight most line) = Unit {0}
 IsOfSearch (answer.BudgetSpent conflicts line) = Unit {0}
 IsOfSearch _ = ⊥
 
--- TWO ANSWERS AGREE: they are one; or both are of a search and one of them is that its conflicts are spent; or,
--- where runs are shown, both report the least sets with runs, which may be others
+-- TWO ANSWERS AGREE: they are one. Or both are of a search, and one says that its conflicts are spent. Or runs are
+-- shown, and both report the least sets, maybe with other runs
 pub data Agree (runs : Bool) (a b : Answer) : Type 0 where
   are_one : a ≡ b → Agree runs a b
   first_spent : (conflicts : ℕ) (line : Option ℕ) → a ≡ answer.BudgetSpent conflicts line → IsOfSearch b →
@@ -48,16 +48,15 @@ pub data Agree (runs : Bool) (a b : Answer) : Type 0 where
   runs_differ : (bytes others : List ℕ) → a ≡ answer.Located bytes → b ≡ answer.Located others →
       runs ≡ true → Agree runs a b
 
--- A FAULT of what derivations are handed to: of the sink; and where a certificate of this name is written, of the
--- sink or of the world, whose faults count together
+-- A FAULT of what derivations are handed to: of the sink. If a certificate of this name is written, the faults of the
+-- sink and of the world count together
 abbrev pub HasHandFault : Option Word → Outside → Outside → Told → Told → Type 0
 HasHandFault None before after t u = Rose t.faults u.faults
 HasHandFault (Some name) before after t u =
     Rose (before.write_faults + t.faults) (after.write_faults + u.faults)
 
--- WHERE A PART OF A CALL ENDS, by an answer or by an error: this holds of the answer; that is left in any case;
--- where the sink failed, there was this fault; and the sink writes where it wrote, and its count of faults does
--- not fall
+-- WHERE A PART OF A CALL ENDS, by an answer or by an error: this holds of the answer, and that is left in any case.
+-- If the sink failed, there was this fault. The sink writes where it wrote, and its count of faults does not fall
 pub record Ends {A : Type 0} (answers : A → Type 0) (leaves fault : Type 0) (t u : Told)
     (result : Result A SearchError) : Type 0
   where

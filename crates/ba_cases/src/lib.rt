@@ -1,5 +1,4 @@
-//! What the texts of a call come to before any search: the program that a text spells, its input and its weights, or the
-//! answer that is given at once.
+//! What the texts of a call come to before any search: a program with its input and weights, or an answer.
 #![tactic(auto)]
 
 mod cases;

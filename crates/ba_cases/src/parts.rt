@@ -100,8 +100,8 @@ pub fn position_of(program: &Program, stmt: StmtId) -> At
     program.statements.as_slice()[stmt.0 as usize - 1].at
 }
 
-/// Whether a run that ends so fails; else the answer that it doesn't, or goes past a bound, with the line of its input
-/// where there are several.
+/// Whether a run that ends so fails. Otherwise the answer: it doesn't fail, or goes past a bound. If there are
+/// several inputs, the line of this one is named.
 pub fn check_failing(program: &Program, line: Option<u64>, outcome: Outcome) -> Result<(), Stop>
     requires named { NamesStatement program.now outcome }
     ensures ok { IfOk result (λ _. unfailing program.now line outcome ≡ None) }

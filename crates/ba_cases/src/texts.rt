@@ -1,7 +1,7 @@
 //! The files of a program with its input and its weights, and their texts.
 
 ghost use Rattle.std.specs.Prelude.{◌≡◌, ◌*◌, ◌+◌, length, IfErr, IfOk};
-ghost use Rattle.ba_cases.specs.Reading.{IsUnread, files_for, parts_of};
+ghost use Rattle.ba_cases.specs.Reading.{StopsUnread, files_for, parts_of};
 ghost use Rattle.ba_files.specs.Files.{AreRead, GivesAtMost};
 ghost use Rattle.ba_answers.specs.Limits.{limit};
 ghost use Rattle.ba_world.specs.Read.{piece_size};
@@ -95,7 +95,7 @@ impl Texts {
         ensures ok { IfOk result (λ texts.
             AreRead files.now (parts_of texts) (W.outside world.old) (W.outside world.new)) }
         ensures err { IfErr result (λ stop.
-            IsUnread files.now (W.outside world.old) (W.outside world.new) stop) }
+            StopsUnread files.now (W.outside world.old) (W.outside world.new) stop) }
         ensures bounded { GivesAtMost (3 * (limit + piece_size))
             (W.outside world.old) (W.outside world.new) }
         ensures stays { OnlyReads (W.outside world.old) (W.outside world.new) }

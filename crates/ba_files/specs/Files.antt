@@ -27,8 +27,8 @@ abbrev pub IsReadIfNamed : Option Word → List ℕ → Outside → Outside → 
 IsReadIfNamed None text old new = (text ≡ []) × (new ≡ old)
 IsReadIfNamed (Some name) text old new = IsReadFile name text old new
 
--- IT WASN'T: its read stopped by a fault or since there is no such file; or with the piece by which there were
--- more bytes than the limit
+-- IT WASN'T: its read stopped by a fault, or since there is no such file. Or it stopped with the piece by which there
+-- were more bytes than the limit
 abbrev pub IsUnread : Word → ReadFileError → Outside → Outside → Type 0
 IsUnread name read.Failed old new = Stopped name limit old new
 IsUnread name read.TooLong old new = StoppedPast name limit old new

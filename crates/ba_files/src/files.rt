@@ -1,6 +1,6 @@
 //! The files that a call reads.
 
-ghost use Rattle.std.specs.Prelude.{◌≡◌, ◌+◌, ◌*◌, ◌≤◌, length, IfOk, IfErr};
+ghost use Rattle.std.specs.Prelude.{◌≡◌, ◌+◌, ◌*◌, length, IfOk, IfErr};
 ghost use Rattle.ba_world.specs.Read.{piece_size};
 ghost use Rattle.ba_world.specs.World.{OnlyReads};
 ghost use Rattle.ba_files.specs.Files.{AreRead, GivesAtMost, IsReadFile, IsReadIfNamed, IsUnread, IsUnreadIfNamed, StopsAt, answer_for};

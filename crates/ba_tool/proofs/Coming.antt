@@ -6,7 +6,7 @@ use Rattle.ba_answers.specs.declared.answers.Answer.{Answer}
 use Rattle.ba_answers.specs.declared.answers.Answer.TheVariants as answer
 use Rattle.ba_cases.proofs.Answered.{stop_no_fault}
 use Rattle.ba_cases.specs.AtOnce.{IsAnswered, IsAtOnce}
-use Rattle.ba_cases.specs.Reading.{IsUnread, IsUnreadAs, by_texts, parts_of}
+use Rattle.ba_cases.specs.Reading.{StopsUnread, IsUnreadAs, by_texts, parts_of}
 use Rattle.ba_cases.specs.Searching.{HasHandFault}
 use Rattle.ba_cases.specs.declared.stop.Stop.{Stop}
 use Rattle.ba_cases.specs.declared.stop.Stop.TheVariants as stop
@@ -69,7 +69,7 @@ refused_ends r o t is = subst (λ r. RequestEnds r o o t t (Ok answer.BadWords))
 pub unread_ends : (r : Request) (before after : Outside) (t : Told) (s : Stop) (result : Result Answer
     SearchError)
     → OnlyReads before after → ((a : Answer) → IsUnreadAs (files_in r) before after a →
-    RequestComesTo r before after [] a) → IsUnread (files_in r) before after s → IsAnswered s result →
+    RequestComesTo r before after [] a) → StopsUnread (files_in r) before after s → IsAnswered s result →
     RequestEnds r before after t t result
 unread_ends r before after t s result reads comes is answered = record {
   answer = by s is answered;
@@ -78,7 +78,7 @@ unread_ends r before after t s result reads comes is answered = record {
   outlasts = Outlasts-refl t;
 }
   where
-    by : (s : Stop) → IsUnread (files_in r) before after s → IsAnswered s result →
+    by : (s : Stop) → StopsUnread (files_in r) before after s → IsAnswered s result →
         IfOk result (Comes r before after t t)
     by (stop.Answered a) is answered = subst (λ o. IfOk o (Comes r before after t t)) (sym answered)
         (at_once_comes r before after t a reads (comes a is))

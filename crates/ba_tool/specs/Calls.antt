@@ -1,5 +1,5 @@
--- A CALL of the program: how its answer comes from the words and the files, what it hands to the sink of
--- steps, and what it leaves of the outside.
+-- A CALL of the program: how its answer comes from words and files, what it hands to the sink of steps, and what it
+-- leaves of the outside.
 
 use Rattle.std.specs.Prelude.{◌≡◌, ◌⊎◌, ℕ, ◌+◌, ◌*◌, ◌≤◌, Option, None, Some, Result, List, [], map, length}
 use denote.Ref.{Bor}
@@ -68,8 +68,8 @@ call words before after told_before told_after = record {
 abbrev pub RunsTo : RunJob → Texts → List Derivation → Answer → Type 0
 RunsTo j x handed a = IsAtOnce x.program (run_answer j.bounds x) a × (handed ≡ [])
 
--- words that are no command are answered at once; a sample is no file, and its text comes to the answer; else files
--- are read, and their texts come to it
+-- words that are no command are answered at once. A sample is no file, and its text comes to the answer. Otherwise
+-- files are read, and their texts come to it
 abbrev pub RequestComesTo : Request → Outside → Outside → List Derivation → Answer → Type 0
 RequestComesTo request.Refused before after handed a =
     (a ≡ answer.BadWords) × (after ≡ before) × (handed ≡ [])
@@ -84,7 +84,7 @@ RequestComesTo (request.Run j) before after handed a =
 RequestComesTo (request.Rank j) before after handed a =
     FilesComeTo (files_in (request.Rank j)) (Unaided (rank.IsAnswer j)) before after handed a
 
--- WHAT A REQUEST COMES TO before anything is printed. By what is read it comes to an answer; the derivations of its
+-- WHAT A REQUEST COMES TO before anything is printed. By what is read it comes to an answer. The derivations of its
 -- searches were handed to the sink of steps, and only the certificate was written.
 pub record Comes (r : Request) (before after : Outside) (t u : Told) (a : Answer) : Type 0
   where
@@ -141,15 +141,15 @@ HandFails c = HasHandFault (cert_of (request_of c.words)) c.before c.after c.tol
 abbrev pub HasFault : Call → Type 0
 HasFault c = HasWriteFault c.before c.after ⊎ HandFails c
 
--- a text was printed, and the call ends with this status; or a fault of writing rose in printing it; or there
--- was no memory to print it
+-- a text was printed, and the call ends with this status. Or a fault of writing rose in printing it, or there was no
+-- memory to print it
 abbrev pub IsPrinted : List ℕ → Status → Outside → Outside → Status → Type 0
 IsPrinted text wanted before after result = ((result ≡ wanted) × Prints before after text)
     ⊎ ((result ≡ status.WriteFault) × HasWriteFault before after)
     ⊎ ((result ≡ status.Memory) × HasPrintShortage before after)
 
--- the text of an answer was printed, and the call ends with its status; or a fault of writing rose in
--- printing it; or there was no memory to make it, or to print it
+-- the text of an answer was printed, and the call ends with its status. Or a fault of writing rose in printing it, or
+-- there was no memory to make it or to print it
 abbrev pub IsShown : Answer → Outside → Outside → Status → Type 0
 IsShown a before after result =
     ((result ≡ status_of a) × Prints before after (text_of a))
@@ -185,8 +185,8 @@ Says c status.BudgetSpent = (conflicts : ℕ) × (line : Option ℕ) × Answered
 -- the certificate is refused, at its first refused line
 Says c status.BadCertificate = (code line : ℕ) × Answered c (answer.BadCertificate code line)
 Says c status.ReadFault = (which : File) × Answered c (answer.Unreadable which)
--- a fault of printing rose, and a prefix of the text of an answer was printed; or one of what a derivation is
--- handed to rose, and the call ended before it printed
+-- a fault of printing rose, and a prefix of the text of an answer was printed. Or a fault rose of what derivations
+-- are handed to, and the call ended before it printed
 Says c status.WriteFault =
     (HasWriteFault c.before c.after × AnsweredInPart c) ⊎ (HandFails c × Unanswered c)
 -- it ended before it printed; or the printing found no memory, and a prefix of the text of an answer was
@@ -235,8 +235,7 @@ pub data IsEndOfSearch : Status → Type 0 where
   too_many : IsEndOfSearch status.TooManySets
   spent : IsEndOfSearch status.BudgetSpent
 
--- the searches of a ranking end with it, with that one has more least sets than may be listed, or with that its
--- conflicts are spent
+-- the searches of a ranking end with it, or one has more least sets than may be listed, or its conflicts are spent
 pub data IsEndOfRanking : Status → Type 0 where
   ranked : IsEndOfRanking status.Ok
   too_many_at : IsEndOfRanking status.TooManySets
@@ -274,7 +273,7 @@ IsDue (request.Run j) before a = FilesAreDue (files_in (request.Run j))
 IsDue (request.Rank j) before a = FilesAreDue (files_in (request.Rank j))
     (λ x a. (handed : List Derivation) × rank.IsAnswer j x handed a) before a
 
--- the world tells all files of a request, and each run of their program fails, so that least sets are searched for; a
+-- the world tells all files of a request, and each run of their program fails, so that least sets are searched for. A
 -- sample is searched whatever is told
 
 abbrev pub TellsFailing : Request → Outside → Type 0
@@ -310,7 +309,7 @@ pub record EndsWhere (c : Call) (result : Status) : Type 0 where
   pub due : (a : Answer) → IsDue (request_of c.words) c.before a → EndsWith c (IsEndFor a) result
   -- the searches of runs that fail come to an end
   pub failing : TellsFailing (request_of c.words) c.before → EndsWith c (IsEndOf (request_of c.words)) result
-  -- a check comes to an end, by what the world tells of its certificate; which it is of accepted and refused,
-  -- and where, `Says` tells: over the formula that was handed to the sink
+  -- a check comes to an end, by what the world tells of its certificate. Whether it is accepted or refused, and at
+  -- which line, `Says` tells, over the formula that was handed to the sink
   pub checking : (name : Word) (file : Option (List ℕ)) → TellsCheck (request_of c.words) c.before name
       → c.before.held name ≡ Some file → EndsWith c (IsEndOfCheck file) result

@@ -54,8 +54,8 @@ where
 
 /// What the least sets of a program come to: its files are read whole, and then they are searched for.
 ///
-/// `SinkFailed` comes only where the faults of `steps` rose, or, where a certificate is named, those of
-/// `steps` and of the world's writing together; `Memory` for want of memory.
+/// `SinkFailed`: the faults of `steps` rose. If a certificate is named, those of `steps` and of the world's writing
+/// count together. `Memory`: out of memory.
 fn localise_answer<W, D, R>(
     alloc: Global,
     world: &mut W,
@@ -153,8 +153,8 @@ where
 
 /// What a request comes to, before it is printed.
 ///
-/// `SinkFailed` comes only where the faults of `steps` rose, or, where a certificate is named, those of
-/// `steps` and of the world's writing together; `Memory` for want of memory.
+/// `SinkFailed`: the faults of `steps` rose. If a certificate is named, those of `steps` and of the world's writing
+/// count together. `Memory`: out of memory.
 fn request_answer<W, D, R>(
     alloc: Global,
     world: &mut W,
@@ -183,11 +183,11 @@ where
     }
 }
 
-/// What a call comes to, before it is printed: it reads the words, and then does what they ask for, by the restart rule
+/// What a call comes to, before it is printed. It reads the words, and does what they ask for, by the restart rule
 /// that they name.
 ///
-/// `SinkFailed` comes only where the faults of `steps` rose, or, where a certificate is written,
-/// those of `steps` and of the world's writing together; `Memory` for want of memory.
+/// `SinkFailed`: the faults of `steps` rose. If a certificate is written, those of `steps` and of the world's writing
+/// count together. `Memory`: out of memory.
 fn answer<W, D, L, G, K>(
     alloc: Global,
     words: &[&str],
@@ -290,8 +290,8 @@ where
         (L.pre rules.luby) (L.post rules.luby) (G.pre rules.steady) (G.post rules.steady)
         (K.pre rules.keep) (K.post rules.keep) }
 
-    // What the status says of the call: which answer its words and files come to, what was handed
-    // to the sink and written for it, and that its text was printed.
+    // What the status says of the call: which answer its words and files come to, what was handed on and written for
+    // it, and what was printed.
     ensures says { Says (call words.now (W.outside world.old) (W.outside world.new)
         (D.told steps.old) (D.told steps.new)) result }
 
@@ -299,8 +299,8 @@ where
     ensures where_told { EndsWhere (call words.now (W.outside world.old) (W.outside world.new)
         (D.told steps.old) (D.told steps.new)) result }
 
-    // No file is written but the certificate of a search, and the files that are read give together no
-    // more bytes than the limit of each and one piece each.
+    // No file is written but the certificate of a search. Each file that is read gives no more bytes than its limit
+    // and one piece.
     ensures stays { WritesOnly (cert_of (asked_by words.now))
         (W.outside world.old) (W.outside world.new) }
     ensures bounded { GivesAtMost (most_given (asked_by words.now))

@@ -3,7 +3,7 @@
 use Rattle.std.proofs.Common.{◌≡◌, inl, inr, ◌∙◌, List, [], ◌∷◌, Result, Ok, Err, refl, sym, ap, subst, arith}
 use Rattle.std.specs.Result.{IsErrAnd}
 use Rattle.ba_answers.specs.declared.answers.Answer.{Answer}
-use Rattle.ba_cases.specs.AtOnce.{IsAnswered, IsStopped, case_answer}
+use Rattle.ba_cases.specs.AtOnce.{IsAnswered, IsStopped, case_answer, weights_of}
 use Rattle.ba_cases.specs.Cases.{IsCaseOf}
 use Rattle.ba_cases.specs.declared.cases.Case.{Case}
 use Rattle.ba_cases.specs.declared.stop.Stop.{Stop}
@@ -29,7 +29,7 @@ use Rattle.ba_tree.specs.Least.{WeightList, judge_of}
 use Rattle.ba_tree.specs.declared.run.Input.{Input}
 use Rattle.ba_world.specs.World.{OnlyReads, Outside}
 use Rattle.mode_check.specs.Certificates.{CertificateComesTo, Judging}
-use Rattle.mode_check.specs.Checks.{Concludes, IsAnswer, MayHandFormula, Stops, TextsEnd, judge_in, weights_of}
+use Rattle.mode_check.specs.Checks.{Concludes, IsAnswer, MayHandFormula, Stops, TextsEnd, judge_in}
 use Rattle.mode_check.specs.Checks as checks
 use Rattle.mode_check.specs.Jobs.{head_by}
 use Rattle.mode_check.specs.declared.jobs.CheckJob.{CheckJob}

@@ -35,8 +35,7 @@ claim_of NoRepair = claim.NoRepair
 claim_of (TooMany weight sets) = claim.TooManySets
 claim_of Spent = claim.BudgetSpent
 
--- IT IS ACCEPTED: the file was read to its end, its bytes are the text of steps that derive a verdict, and the
--- verdict is true
+-- IT IS ACCEPTED: the file was read to its end. Its bytes are the text of steps that derive a verdict, which is true
 pub record IsAccepted (j : Judging) (claimed : Claim) (old new : Outside) : Type 0 where
   pub text : List ℕ
   pub whole : IsReadWhole j.name text old new

@@ -5,26 +5,22 @@ use Rattle.ba_answers.specs.Limits.{certificate_limit}
 use Rattle.ba_answers.specs.declared.answers.Answer.{Answer}
 use Rattle.ba_answers.specs.declared.status.Status.{Status}
 use Rattle.ba_answers.specs.declared.status.Status.TheVariants as status
-use Rattle.ba_cases.specs.AtOnce.{IsAtOnce, case_answer, input_of}
+use Rattle.ba_cases.specs.AtOnce.{IsAtOnce, case_answer, input_of, weights_of}
 use Rattle.ba_cases.specs.Searching.{Ends, HandsAll}
 use Rattle.ba_cases.specs.declared.texts.Texts.{Texts}
 use Rattle.ba_choices.specs.Judges.{Judge}
 use Rattle.ba_derivations.specs.Encodings.{IsFaithful}
-use Rattle.ba_inputs.specs.Weights.{weights_in}
 use Rattle.ba_derivations.specs.Handing.{Derivation, problem_of}
 use Rattle.ba_search.specs.declared.search.SearchError.{SearchError}
 use Rattle.ba_steps.specs.Sinks.{Told, with_told}
 use Rattle.ba_steps.specs.declared.sink.Basis.{Basis}
-use Rattle.ba_tree.specs.Least.{WeightList, judge_of}
+use Rattle.ba_tree.specs.Least.{judge_of}
 use Rattle.ba_tree.specs.declared.tree.Program.{Program}
 use Rattle.ba_tree_laws.specs.Spelling.{Spells}
 use Rattle.ba_world.specs.World.{OnlyReads, Outside, Rose}
 use Rattle.mode_check.specs.Certificates.{CertificateComesTo, Judging}
 use Rattle.mode_check.specs.Jobs.{head_by}
 use Rattle.mode_check.specs.declared.jobs.CheckJob.{CheckJob}
-
-abbrev pub weights_of : Program → Texts → WeightList
-weights_of p x = weights_in p x.weights
 
 abbrev pub judge_in : CheckJob → Texts → Program → Judge
 judge_in j x p = judge_of p (input_of p x.input) j.bounds
@@ -85,8 +81,8 @@ abbrev pub TextsEnd : CheckJob → Texts → Outside → Outside → Told → To
 TextsEnd j x before after t u = Ends (Concludes j x before after t u) (Stops j x before after t u)
     (Rose t.faults u.faults) t u
 
--- How a check ends by what the world tells of the certificate: it can't be read where there is none; where
--- there is one it is accepted, if it isn't too long, or it is refused, or it is too long.
+-- How a check ends by what the world tells of the certificate. If there is none, it can't be read. If there is one,
+-- it is too long, or refused, or, if it isn't too long, accepted.
 pub data IsEndOfCheck : Option (List ℕ) → Status → Type 0 where
   not_there : IsEndOfCheck None status.ReadFault
   accepted : (text : List ℕ) → length text ≤ certificate_limit → IsEndOfCheck (Some text) status.Ok

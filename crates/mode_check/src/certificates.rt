@@ -64,8 +64,8 @@ impl From<CheckError> for Unfed {
 /// How many bytes are read at a time.
 const BUFFER: usize = 4096;
 
-/// Feeds the file of this name to a reader of certificates that has read nothing: to its end, or to the
-/// piece in which its first refused line ends.
+/// Feeds the file of this name to a reader of certificates that has read nothing. It stops at the end, or with the
+/// piece in which the first refused line ends.
 fn feed_file<W: World>(world: &mut W, name: &str, confirm: &mut Confirm) -> Result<(), Unfed>
     ensures fed { (j : Judging) → j.name ≡ name.now
         → HasRead j.head j.problem [] (seen confirm.old)
@@ -162,9 +162,8 @@ fn file_answer<W: World>(
     }
 }
 
-/// What the certificate of a job says of a case. The formula of the case is made and handed to `steps`,
-/// and no step; then the file is read in pieces, and judged over this formula, up to its first refused
-/// line.
+/// What the certificate of a job says of a case. The formula of the case is made and handed to `steps`, and no step.
+/// Then the file is read in pieces. It is judged over this formula, up to its first refused line.
 ///
 /// `SinkFailed` comes only where the faults of `steps` rose; `Memory` for want of memory.
 fn check_case<W, D>(
@@ -201,9 +200,9 @@ where
 /// What the certificate of a job says of the run of the program that these texts spell, which fails; or why it isn't
 /// judged.
 ///
-/// In this order it reads the program, the input and the weights, counts the units, and runs the program as written. It
-/// hands the formula to `steps` and no step, and then reads the certificate in pieces and judges it over that formula, up
-/// to its first refused line.
+/// In this order it reads the program, the input and the weights, counts the units, and runs the program as written.
+/// It hands the formula to `steps`, and no step. Then it reads the certificate in pieces and judges it over that
+/// formula, up to its first refused line.
 ///
 /// `SinkFailed` comes only where the faults of `steps` rose; `Memory` for want of memory.
 pub fn check_texts<W, D>(

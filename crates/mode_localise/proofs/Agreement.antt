@@ -14,9 +14,10 @@ use Rattle.ba_tree.specs.Least.{WeightList}
 use Rattle.ba_tree.specs.declared.tree.Program.{Program}
 use Rattle.ba_answers.specs.declared.answers.Answer.{Answer}
 use Rattle.ba_answers.specs.declared.answers.Answer.TheVariants as answer
+use Rattle.ba_cases.specs.AtOnce.{weights_of}
 use Rattle.ba_cases.specs.Searching.{Agree, IsOfSearch, are_one, first_spent, runs_differ, second_spent}
 use Rattle.ba_cases.specs.declared.texts.Texts.{Texts}
-use Rattle.mode_localise.specs.Answers.{IsFound, judge_in, sets_answer, shows_runs, verdict_answer, weights_of}
+use Rattle.mode_localise.specs.Answers.{IsFound, judge_in, sets_answer, shows_runs, verdict_answer}
 use Rattle.mode_localise.specs.declared.jobs.LocaliseJob.{LocaliseJob}
 use Rattle.mode_localise.specs.declared.jobs.Telling.{Telling}
 use Rattle.mode_localise.specs.declared.jobs.Telling.TheVariants as telling

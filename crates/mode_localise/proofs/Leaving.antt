@@ -20,9 +20,10 @@ use Rattle.ba_tree.specs.Least.{WeightList, judge_of}
 use Rattle.ba_tree.specs.declared.run.Input.{Input}
 use Rattle.ba_tree.specs.declared.tree.Program.{Program}
 use Rattle.ba_world.specs.World.{Outside}
+use Rattle.ba_cases.specs.AtOnce.{weights_of}
 use Rattle.ba_cases.specs.declared.texts.Texts.{Texts}
 use Rattle.mode_localise.specs.declared.jobs.LocaliseJob.{LocaliseJob}
-use Rattle.mode_localise.specs.Answers.{judge_in, weights_of}
+use Rattle.mode_localise.specs.Answers.{judge_in}
 use Rattle.mode_localise.specs.Certifying.{Begins}
 use Rattle.mode_localise.specs.Leaving.{IsWriting, LeavesPart, LeavesWritten, SearchLeaves, Stops, at_once, in_search, with_log, writes_steps}
 use Rattle.mode_localise.specs.Jobs.{head_by}

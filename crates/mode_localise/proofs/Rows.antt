@@ -15,10 +15,10 @@ use Rattle.ba_answers.specs.declared.answers.Answer.{Answer}
 use Rattle.ba_answers.specs.declared.answers.Answer.TheVariants as answer
 use Rattle.ba_cases.proofs.Alike.{judges_alike, weights_alike}
 use Rattle.ba_cases.proofs.OneAnswer.{answers_agree, case_of_meaning, is_of_search}
-use Rattle.ba_cases.specs.AtOnce.{case_answer}
+use Rattle.ba_cases.specs.AtOnce.{case_answer, weights_of}
 use Rattle.ba_cases.specs.Searching.{Agree, IsOfSearch}
 use Rattle.ba_cases.specs.declared.texts.Texts.{Texts}
-use Rattle.mode_localise.specs.Answers.{IsAnswer, IsFound, judge_in, sets_answer, shows_runs, verdict_answer, weights_of}
+use Rattle.mode_localise.specs.Answers.{IsAnswer, IsFound, judge_in, sets_answer, shows_runs, verdict_answer}
 use Rattle.mode_localise.specs.declared.jobs.LocaliseJob.{LocaliseJob}
 use Rattle.mode_localise.specs.declared.jobs.Telling.{Telling}
 use Rattle.mode_localise.specs.declared.jobs.Telling.TheVariants as telling

@@ -47,8 +47,8 @@ use Rattle.mode_localise.specs.Jobs.{sample_job, sample_texts}
 use Rattle.ba_samples.specs.Text.{sample_text}
 use Rattle.ba_cases.specs.declared.texts.Texts.{Texts}
 use Rattle.mode_localise.specs.declared.jobs.LocaliseJob.{LocaliseJob}
-use Rattle.mode_localise.specs.Answers.{IsAnswer, IsAnswerOfSample, IsFound, judge_in, verdict_answer, weights_of}
-use Rattle.ba_cases.specs.AtOnce.{IsAtOnce, case_answer, fault_of as named_fault, first_answer, input_of, input_refusal, no_program, of_program, run_in, size_refusal, unfailing, unit_limit, weights_refusal}
+use Rattle.mode_localise.specs.Answers.{IsAnswer, IsAnswerOfSample, IsFound, judge_in, verdict_answer}
+use Rattle.ba_cases.specs.AtOnce.{IsAtOnce, case_answer, fault_of as named_fault, first_answer, input_of, input_refusal, no_program, of_program, run_in, size_refusal, unfailing, unit_limit, weights_of, weights_refusal}
 use Rattle.ba_cases.specs.Searching.{at_once, by_search}
 use Rattle.ba_cases.specs.Programs.{IsFault, IsTreeOf, ill_typed, no_file, no_main, no_tokens, too_deep}
 use Rattle.ba_localise.proofs.Counting.{distinct_short}

@@ -14,9 +14,9 @@ use Rattle.ba_checker.specs.Puts.{with_steps}
 use Rattle.ba_tree.specs.Least.{WeightList, judge_of}
 use Rattle.ba_tree.specs.declared.run.Input.{Input}
 use Rattle.ba_world.specs.World.{Outside}
-use Rattle.mode_localise.specs.Answers.{judge_in, verdict_answer, weights_of}
+use Rattle.mode_localise.specs.Answers.{judge_in, verdict_answer}
 use Rattle.mode_localise.specs.Leaving.{FindsAnswer}
-use Rattle.ba_cases.specs.AtOnce.{IsAtOnce, case_answer}
+use Rattle.ba_cases.specs.AtOnce.{IsAtOnce, case_answer, weights_of}
 use Rattle.ba_cases.specs.Searching.{at_once, by_search}
 use Rattle.mode_localise.specs.Certifying.{Certifies, Concludes}
 use Rattle.mode_localise.specs.Jobs.{head_by}

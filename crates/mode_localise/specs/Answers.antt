@@ -3,18 +3,17 @@
 use Rattle.std.specs.Prelude.{◌≡◌, ◌⊎◌, ℕ, ◌+◌, Bool, false, None, List, [], ◌∷◌, length}
 use Rattle.ba_answers.specs.declared.answers.Answer.{Answer}
 use Rattle.ba_answers.specs.declared.answers.Answer.TheVariants as answer
-use Rattle.ba_cases.specs.AtOnce.{case_answer, input_of}
+use Rattle.ba_cases.specs.AtOnce.{case_answer, input_of, weights_of}
 use Rattle.ba_cases.specs.Searching.{IsAnswerOf}
 use Rattle.ba_cases.specs.declared.texts.Texts.{Texts}
 use Rattle.ba_choices.specs.Judges.{Judge}
 use Rattle.ba_derivations.specs.declared.verdict.FoundSet.{FoundSet}
 use Rattle.ba_derivations.specs.declared.verdict.Verdict.{Verdict}
 use Rattle.ba_derivations.specs.declared.verdict.Verdict.TheVariants.{Located, NoRepair, TooMany, Spent}
-use Rattle.ba_inputs.specs.Weights.{weights_in}
 use Rattle.ba_derivations.specs.Handing.{Derivation}
 use Rattle.ba_localise.specs.Verdicts.{Shows}
 use Rattle.ba_report.specs.Report.{report_text}
-use Rattle.ba_tree.specs.Least.{WeightList, judge_of}
+use Rattle.ba_tree.specs.Least.{judge_of}
 use Rattle.ba_tree.specs.declared.tree.Program.{Program}
 use Rattle.mode_localise.specs.Jobs.{sample_job}
 use Rattle.mode_localise.specs.declared.jobs.LocaliseJob.{LocaliseJob}
@@ -22,9 +21,6 @@ use Rattle.mode_localise.specs.declared.jobs.Telling.{Telling}
 use Rattle.mode_localise.specs.declared.jobs.Telling.TheVariants as telling
 
 -- what the statements weigh, and which choices make a good run on the input where a set of statements is relaxed
-
-abbrev pub weights_of : Program → Texts → WeightList
-weights_of p x = weights_in p x.weights
 
 abbrev pub judge_in : LocaliseJob → Texts → Program → Judge
 judge_in j x p = judge_of p (input_of p x.input) j.bounds
@@ -34,8 +30,8 @@ abbrev pub sets_answer : Telling → List ℕ → Program → ℕ → List Found
 sets_answer (telling.Report runs) source p weight sets = answer.Located (report_text source p runs weight sets)
 sets_answer (telling.Count additions) source p weight sets = answer.Sampled additions weight (length sets)
 
--- THE ANSWER OF A VERDICT: the least sets; that there is no repair; that there are more least sets than may be
--- listed, each of this weight; or that the conflicts that are allowed are spent
+-- THE ANSWER OF A VERDICT: the least sets; no repair; more least sets than may be listed, each of this weight; or the
+-- allowed conflicts are spent
 abbrev pub verdict_answer : LocaliseJob → List ℕ → Program → Verdict → Answer
 verdict_answer j source p (Located weight sets) = sets_answer j.telling source p weight sets
 verdict_answer j source p NoRepair = answer.NoRepair

@@ -27,13 +27,13 @@ Certifies h None handed old new = new ≡ old
 Certifies h (Some name) [] old new = new ≡ old
 Certifies h (Some name) (d ∷ others) old new = Writes name (certificate_of h d.steps) old new
 
--- only the file of this name was written: it holds the first bytes of a certificate of these settings, where
--- that is told; or it couldn't be begun, and is as it was
+-- only the file of this name was written. It holds the first bytes of a certificate of these settings, if that is
+-- told. Or it couldn't be begun, and is as it was
 pub record Begins (h : CertHead) (name : List ℕ) (old new : Outside) : Type 0 where
   pub only : OnlyWritesTo name old new
   pub beginning : IsUnbegun name old new ⊎ HoldsBeginning h name new
 
--- AN ANSWER of the texts: its derivation, if there is one, was handed to the sink of steps and written to the
+-- AN ANSWER of the texts. Its derivation, if there is one, was handed to the sink of steps. It was written to the
 -- certificate, if one is named
 pub record Concludes (j : LocaliseJob) (x : Texts) (name : Option Word) (before after : Outside) (t u : Told)
     (a : Answer) : Type 0

@@ -24,8 +24,8 @@ pub record MayBeDone (j : LocaliseJob) : Type 0 where
   pub countable : j.conflicts < 2 ^ 62
   pub bounds : are_bounds j.bounds ≡ true
 
--- A SAMPLE: its least sets are searched for in its own text, with bound 1, an empty input, weight 1 for each
--- statement and the default settings; no file is read or written
+-- A SAMPLE: its least sets are searched for in its own text. The bound is 1, the input is empty, each statement has
+-- weight 1, and the settings are the default ones. No file is read or written
 abbrev pub sample_job : ℕ → LocaliseJob
 sample_job additions = record {
   program = [];

@@ -2,7 +2,7 @@
 
 use Rattle.std.specs.Prelude.{◌≡◌, ◌⊎◌, true, Option, None, Some, IfSome, Result, List, [], ◌∷◌}
 use Rattle.ba_answers.specs.declared.answers.Answer.{Answer}
-use Rattle.ba_cases.specs.AtOnce.{case_answer}
+use Rattle.ba_cases.specs.AtOnce.{case_answer, weights_of}
 use Rattle.ba_cases.specs.Cases.{IsCaseOf}
 use Rattle.ba_cases.specs.Searching.{Ends, HandsAll, HasHandFault}
 use Rattle.ba_cases.specs.declared.cases.Case.{Case}
@@ -18,7 +18,7 @@ use Rattle.ba_steps.specs.declared.step.CertStep.{CertStep}
 use Rattle.ba_tree.specs.declared.tree.Program.{Program}
 use Rattle.ba_tree_laws.specs.Spelling.{Spells}
 use Rattle.ba_world.specs.World.{Outside, Rose}
-use Rattle.mode_localise.specs.Answers.{IsFound, judge_in, weights_of}
+use Rattle.mode_localise.specs.Answers.{IsFound, judge_in}
 use Rattle.mode_localise.specs.Certifying.{Begins, Concludes}
 use Rattle.mode_localise.specs.Jobs.{MayBeDone, head_by}
 use Rattle.mode_localise.specs.declared.jobs.LocaliseJob.{LocaliseJob}
@@ -35,9 +35,9 @@ with_log log t = record t { logs = log ∷ t.logs }
 abbrev pub IsWriting : Word → Outside → Type 0
 IsWriting name o = (o.is_writing ≡ true) × IfSome o.writing (λ written. written ≡ name)
 
--- by a search that writes the file of this name: nothing was handed on, and the file was not begun, or holds
--- first bytes of its settings; or it is being written, and its steps, which were none at first, are one more
--- log before those of the sink
+-- by a search that writes the file of this name. Either nothing was handed on, and the file was not begun or holds
+-- first bytes of its settings. Or it is being written: its steps, none at first, are one more log before those of the
+-- sink
 pub data LeavesWritten (j : LocaliseJob) (x : Texts) (p : Program) (name : Word) (old new : Outside)
     (t u : Told) : Type 0
   where

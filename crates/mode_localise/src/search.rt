@@ -176,9 +176,8 @@ where
 /// What a search comes to; the derivation is handed to `steps`, and its steps are written to the certificate, if one
 /// is named.
 ///
-/// `SinkFailed` comes only where the faults of `steps` rose, or, where a file is named, those of
-/// `steps` and of the world's writing together; `Memory` for want of memory. What was handed on
-/// before an error stays.
+/// `SinkFailed`: the faults of `steps` rose. If a file is named, those of `steps` and of the world's writing count
+/// together. `Memory`: out of memory. What was handed on before an error stays.
 fn conclude<W, D, R>(
     alloc: Global,
     world: &mut W,
@@ -209,9 +208,8 @@ where
 /// searches. The derivation is handed to `steps`: the formula, and then each step as it is made. Where a certificate is
 /// named, it is begun before the search, and each step is written to it before it is handed on.
 ///
-/// `SinkFailed` comes only where the faults of `steps` rose, or, where a certificate is named, those of
-/// `steps` and of the world's writing together; `Memory` for want of memory. What was handed on before an
-/// error stays.
+/// `SinkFailed`: the faults of `steps` rose. If a certificate is named, those of `steps` and of the world's writing
+/// count together. `Memory`: out of memory. What was handed on before an error stays.
 pub fn localise_texts<W, D, R>(
     alloc: Global,
     world: &mut W,

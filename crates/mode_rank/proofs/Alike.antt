@@ -5,7 +5,7 @@ use Rattle.std.specs.Option.{option_or}
 use Rattle.ba_answers.specs.declared.answers.Answer.{Answer}
 use Rattle.ba_answers.specs.declared.answers.Answer.TheVariants as answer
 use Rattle.ba_bytes.specs.Lines.{lines_of}
-use Rattle.ba_cases.specs.AtOnce.{first_answer, unfailing}
+use Rattle.ba_cases.specs.AtOnce.{first_answer, unfailing, weights_of}
 use Rattle.ba_cases.specs.declared.texts.Texts.{Texts}
 use Rattle.ba_cases.proofs.Alike.{at_once_alike, ends_alike, infos_alike, inputs_alike, weights_alike}
 use Rattle.ba_choices.specs.Judges.{Judge}
@@ -21,7 +21,7 @@ use Rattle.ba_tree.specs.declared.run.Bounds.{Bounds}
 use Rattle.ba_tree.specs.declared.run.Input.{Input}
 use Rattle.ba_tree.specs.declared.tree.Program.{Program}
 use Rattle.ba_tree_laws.specs.Equivalent.{AreEquivalent}
-use Rattle.mode_rank.specs.Answers.{AreListed, IsFound, Listed, judge_at, ranked, stopped, weights_of}
+use Rattle.mode_rank.specs.Answers.{AreListed, IsFound, Listed, judge_at, ranked, stopped}
 use Rattle.mode_rank.specs.Inputs.{end_of, ends_answer, input_at, inputs_of, inputs_refusal, rank_answer, refusal_of}
 use Rattle.mode_rank.specs.Report.{entry_line, line_of, ranked_text}
 use Rattle.mode_rank.specs.declared.jobs.RankJob.{RankJob}

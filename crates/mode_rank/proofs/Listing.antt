@@ -6,7 +6,7 @@ use Rattle.std.proofs.lemmas.Option.{same_Some}
 use Rattle.std.proofs.lemmas.Slice.Zip.{all_zipped_more}
 use Rattle.ba_answers.specs.declared.answers.Answer.{Answer}
 use Rattle.ba_answers.specs.declared.answers.Answer.TheVariants as answer
-use Rattle.ba_cases.specs.AtOnce.{IsAtOnce}
+use Rattle.ba_cases.specs.AtOnce.{IsAtOnce, weights_of}
 use Rattle.ba_cases.specs.Searching.{HandsAll}
 use Rattle.ba_cases.specs.Searching as searching
 use Rattle.ba_cases.specs.declared.texts.Texts.{Texts}
@@ -25,7 +25,7 @@ use Rattle.ba_steps.specs.Sinks.{Told}
 use Rattle.ba_steps.specs.declared.step.CertStep.{CertStep}
 use Rattle.ba_tree.specs.Least.{AreLeast, WeightList, judge_of}
 use Rattle.ba_tree.specs.declared.tree.Program.{Program}
-use Rattle.mode_rank.specs.Answers.{IsListed, IsStoppedAt, Listed, ShowsAt, TellsList, derivations_of, judge_at, ranked, sets_in, stopped, weights_of}
+use Rattle.mode_rank.specs.Answers.{IsListed, IsStoppedAt, Listed, ShowsAt, TellsList, derivations_of, judge_at, ranked, sets_in, stopped}
 use Rattle.mode_rank.specs.Inputs.{AreRunsOf, inputs_of, rank_answer}
 use Rattle.mode_rank.specs.Report.{ranked_text}
 use Rattle.mode_rank.specs.Searches.{ComesTo, Concludes, Finds, FindsList, FindsNone, HasListed, LeavesLists, PartLeaves, Stops, between, in_search, within}

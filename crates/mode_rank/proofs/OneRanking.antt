@@ -4,6 +4,7 @@ use Rattle.std.proofs.Common.{◌≡◌, ◌⊎◌, inl, inr, ℕ, false, Option
 use Rattle.std.proofs.lemmas.Option.{same_Some}
 use Rattle.ba_answers.specs.declared.answers.Answer.{Answer}
 use Rattle.ba_answers.specs.declared.answers.Answer.TheVariants as answer
+use Rattle.ba_cases.specs.AtOnce.{weights_of}
 use Rattle.ba_cases.specs.Searching.{Agree, IsOfSearch, are_one, first_spent, second_spent}
 use Rattle.ba_cases.specs.declared.texts.Texts.{Texts}
 use Rattle.ba_cases.specs.Searching as searching
@@ -21,7 +22,7 @@ use Rattle.ba_rank.proofs.Ordering.{one_ranking as one_order}
 use Rattle.ba_tree.proofs.Sets.{AreLeast-unique}
 use Rattle.ba_tree.specs.declared.tree.Program.{Program}
 use Rattle.ba_tree_laws.specs.Spelling.{Spells}
-use Rattle.mode_rank.specs.Answers.{AreListed, IsAnswer, IsFound, IsListed, IsRanked, IsStoppedAt, Listed, ShowsAt, judge_at, lists_of, ranked, sets_in, stop_answer, stopped, weights_of}
+use Rattle.mode_rank.specs.Answers.{AreListed, IsAnswer, IsFound, IsListed, IsRanked, IsStoppedAt, Listed, ShowsAt, judge_at, lists_of, ranked, sets_in, stop_answer, stopped}
 use Rattle.mode_rank.specs.Inputs.{inputs_of, rank_answer}
 use Rattle.mode_rank.specs.Report.{ranked_text}
 use Rattle.mode_rank.specs.declared.jobs.RankJob.{RankJob}

@@ -4,28 +4,25 @@ use Rattle.std.specs.Prelude.{◌≡◌, ℕ, Option, None, Some, List, [], ◌�
 use Rattle.std.specs.List.{AllZip}
 use Rattle.ba_answers.specs.declared.answers.Answer.{Answer}
 use Rattle.ba_answers.specs.declared.answers.Answer.TheVariants as answer
+use Rattle.ba_cases.specs.AtOnce.{weights_of}
 use Rattle.ba_cases.specs.Searching.{IsAnswerOf}
 use Rattle.ba_cases.specs.declared.texts.Texts.{Texts}
 use Rattle.ba_choices.specs.Judges.{Judge}
 use Rattle.ba_derivations.specs.Derivations.{sets_of}
 use Rattle.ba_derivations.specs.declared.verdict.Verdict.{Verdict}
 use Rattle.ba_derivations.specs.declared.verdict.Verdict.TheVariants.{Located, NoRepair, TooMany, Spent}
-use Rattle.ba_inputs.specs.Weights.{weights_in}
 use Rattle.ba_inputs.specs.declared.inputs.InputLine.{InputLine}
 use Rattle.ba_derivations.specs.Handing.{Derivation}
 use Rattle.ba_localise.specs.Verdicts.{Shows}
 use Rattle.ba_rank.specs.Ranking.{IsRanking}
 use Rattle.ba_rank.specs.declared.ranking.Ranked.{Ranked}
-use Rattle.ba_tree.specs.Least.{AreLeast, WeightList, judge_of}
+use Rattle.ba_tree.specs.Least.{AreLeast, judge_of}
 use Rattle.ba_tree.specs.declared.tree.Program.{Program}
 use Rattle.mode_rank.specs.Inputs.{inputs_of, rank_answer}
 use Rattle.mode_rank.specs.Report.{ranked_text}
 use Rattle.mode_rank.specs.declared.jobs.RankJob.{RankJob}
 use Rattle.mode_rank.specs.declared.searches.Found.{Found}
 use Rattle.mode_rank.specs.declared.searches.Found.TheVariants as single
-
-abbrev pub weights_of : Program → Texts → WeightList
-weights_of p x = weights_in p x.weights
 
 abbrev pub judge_at : RankJob → Program → InputLine → Judge
 judge_at j p entry = judge_of p entry.input j.bounds
@@ -85,8 +82,8 @@ pub record IsRanked (j : RankJob) (x : Texts) (p : Program) (handed : List Deriv
     pub ranking : IsRanking (lists_of lists) entries
     pub tells : a ≡ answer.Ranked (ranked_text x.program p (length (inputs_of p x.input)) entries)
 
--- or those before one have theirs, and the last derivation shows that this one has more least sets than may
--- be listed, or that its conflicts are spent; no search comes behind it
+-- or those before one have theirs. The last derivation shows that this one has more least sets than may be listed, or
+-- that its conflicts are spent. No search comes behind it
 pub record IsStoppedAt (j : RankJob) (x : Texts) (p : Program) (handed : List Derivation) (a : Answer) :
     Type 0
   where

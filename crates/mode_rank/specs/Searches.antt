@@ -2,6 +2,7 @@
 
 use Rattle.std.specs.Prelude.{◌≡◌, ◌≢◌, ℕ, true, None, Some, Result, List, [], ◌∷◌, ◌++◌, All}
 use Rattle.ba_answers.specs.declared.answers.Answer.{Answer}
+use Rattle.ba_cases.specs.AtOnce.{weights_of}
 use Rattle.ba_cases.specs.Searching.{Ends, HandsAll}
 use Rattle.ba_cases.specs.declared.texts.Texts.{Texts}
 use Rattle.ba_inputs.specs.declared.inputs.InputLine.{InputLine}
@@ -15,7 +16,7 @@ use Rattle.ba_tree.specs.Run.{fits, plain_run}
 use Rattle.ba_tree.specs.declared.run.Outcome.TheVariants as outcome
 use Rattle.ba_tree.specs.declared.tree.Program.{Program}
 use Rattle.ba_tree_laws.specs.Spelling.{Spells}
-use Rattle.mode_rank.specs.Answers.{AreListed, IsAnswer, IsListed, IsStoppedAt, Listed, ShowsAt, derivations_of, judge_at, lists_of, stop_answer, weights_of}
+use Rattle.mode_rank.specs.Answers.{AreListed, IsAnswer, IsListed, IsStoppedAt, Listed, ShowsAt, derivations_of, judge_at, lists_of, stop_answer}
 use Rattle.mode_rank.specs.Inputs.{inputs_of, rank_answer}
 use Rattle.mode_rank.specs.Jobs.{MayBeDone}
 use Rattle.mode_rank.specs.declared.jobs.RankJob.{RankJob}

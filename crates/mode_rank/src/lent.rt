@@ -1,7 +1,5 @@
 //! Rules of a search that are lent to it, so that the next search asks the same ones.
 
-ghost use Rattle.std.specs.Prelude.{◌≡◌, ◌≤◌, true};
-
 use ba_search::SearchRules;
 
 /// Rules that are lent.

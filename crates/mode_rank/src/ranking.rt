@@ -65,13 +65,13 @@ fn rank_runs<D: StepSink + Drop, R: SearchRules>(
     }
 }
 
-/// The statements whose change could repair the run of the program that these texts spell on most of several inputs, on
-/// each of which it fails; or why they aren't ranked.
+/// Ranks the statements of the program that these texts spell by how many of several failing runs their change could
+/// repair. Or it says why they aren't ranked.
 ///
-/// In this order it reads the program, the inputs and the weights, counts the units, and runs the program as written on
-/// each input. Then it searches for the least sets of each run, one after the other, with the whole of the conflicts
-/// and of the sets for each, and stops at the first that has more sets or spends its conflicts. Each derivation is handed
-/// to `steps`: the formula, and then each step as it is made.
+/// In this order it reads the program, the inputs and the weights, counts the units, and runs the program as written
+/// on each input. Then it searches for the least sets of each run, one after the other. Each search has all conflicts
+/// and all sets that are allowed. It stops at the first that has more sets or spends its conflicts. Each derivation
+/// is handed to `steps`: the formula, and then each step as it is made.
 ///
 /// `SinkFailed` comes only where the faults of `steps` rose; `Memory` for want of memory. What was handed on before an
 /// error stays.

@@ -63,9 +63,8 @@ fn push_entries(
     Ok(())
 }
 
-/// The report of a ranking over so many inputs of the program that the source text spells: a line with their number, and
-/// one for each entry, with the number of inputs that have its statement, and the statement's position, kind and source
-/// line.
+/// The report of a ranking over so many inputs. Its first line has their number. Each entry has a line: the number of
+/// inputs that have its statement, and the statement's position, kind and source line.
 ///
 /// The one error is want of memory.
 pub fn ranked_text(

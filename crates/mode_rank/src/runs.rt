@@ -1,8 +1,8 @@
 //! A program with several inputs, the run on each of which fails.
 
-ghost use Rattle.std.specs.Prelude.{◌≡◌, ◌≤◌, true, All, None, length, map, IfErr, IfOk};
+ghost use Rattle.std.specs.Prelude.{◌≡◌, ◌≤◌, true, All, None, length, IfErr, IfOk};
 ghost use Rattle.ba_answers.specs.Limits.{limit};
-ghost use Rattle.ba_cases.specs.AtOnce.{IsStopped, Tells, first_answer};
+ghost use Rattle.ba_cases.specs.AtOnce.{IsStopped, Tells};
 ghost use Rattle.ba_cases.specs.Reading.{AreShort};
 ghost use Rattle.ba_tree.specs.Run.{are_bounds, fits};
 ghost use Rattle.mode_rank.specs.Inputs.{AreRunsOf, end_of, ends_answer, inputs_of, inputs_refusal, rank_answer};
@@ -48,7 +48,8 @@ fn refused(fault: InputFault, line: Option<u64>) -> Stop
 fn read_all(alloc: Global, program: &Program, text: &[u8]) -> Result<Items<InputLine>, Stop>
     requires { length text.now ≤ limit }
     ensures ok { IfOk result (λ inputs. inputs ≡ inputs_of program.now text.now) }
-    ensures fit { IfOk result (λ inputs. All (λ entry. fits program.now entry.input ≡ true) inputs) }
+    ensures fit { IfOk result
+        (λ inputs. All (λ entry. fits program.now entry.input ≡ true) inputs) }
     ensures accepted { IfOk result (λ _. inputs_refusal program.now text.now ≡ None) }
     ensures err { IfErr result (λ stop. Tells stop (inputs_refusal program.now text.now)) }
 {

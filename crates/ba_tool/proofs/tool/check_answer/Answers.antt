@@ -1,5 +1,5 @@
 use Rattle.std.proofs.Common.{List, refl, subst, ◌∙◌}
-use Rattle.ba_cases.specs.Reading.{IsUnread, parts_of, unread}
+use Rattle.ba_cases.specs.Reading.{StopsUnread, parts_of, unread}
 use Rattle.ba_files.specs.Files.{AreRead}
 use Rattle.ba_files.specs.declared.files.Named.{Named}
 use Rattle.ba_tool.specs.declared.requests.Request.TheVariants as request
@@ -21,5 +21,5 @@ returns-in-Err-clause-ends g c =
     unread_ends (request.Check c.args.job.now) (g.W.World.outside c.args.world.now)
     (g.W.World.outside c.read.new.world) (g.D.StepSink.told c.args.steps.now) c.in-Err.stop c.answer.result
     c.read.ensures.stays (λ a is. unread is refl)
-    (subst (λ (fs : List Named). IsUnread fs (g.W.World.outside c.args.world.now)
+    (subst (λ (fs : List Named). StopsUnread fs (g.W.World.outside c.args.world.now)
     (g.W.World.outside c.read.new.world) c.in-Err.stop) files c.in-Err.ensures.err) c.answer.ensures
