@@ -1,9 +1,12 @@
 //! Rules of a search: those that a caller of the program may choose, and those of the program
 //! itself.
 
-ghost use Rattle.std.specs.Prelude.{◌≡◌, ◌↔◌, ◌⊎◌, ℕ, ◌+◌, ◌*◌, ◌≤◌, ◌<◌, ◌^◌, IsTrue};
+ghost use Rattle.std.specs.Prelude.{◌≡◌, true, false, ◌↔◌, ◌⊎◌, ℕ, ◌+◌, ◌*◌, ◌≤◌, ◌<◌, ◌^◌, IsTrue};
 ghost use Rattle.ba_search.specs.Rules.{IsKeepRule, IsRestartRule};
 ghost use Rattle.ba_rules.specs.Luby.{IsLubyTerm};
+ghost use Rattle.ba_rules.specs.Rules.{AreJobRules};
+
+use ba_search::SearchRules;
 
 /// When a search restarts, and which learnt clauses it keeps. What the program promises holds for
 /// all such rules; how soon a search ends depends on them.
@@ -31,6 +34,53 @@ impl<L: Fn(u64) -> u64, G: Fn(u64) -> u64, K: Fn(u64, u64) -> bool> Rules<L, G, 
         ensures keep { result.keep ≡ keep }
     {
         Rules { luby, steady, keep }
+    }
+}
+
+/// The rules of a call: those of its caller, and which restart rule its words ask for.
+#[derive(Drop)]
+pub struct CallRules<L, G, K> {
+    pub rules: Rules<L, G, K>,
+    /// Whether restarts come at a steady pace, and not by Luby's sequence.
+    pub is_steady: bool,
+}
+
+impl<L: Fn(u64) -> u64, G: Fn(u64) -> u64, K: Fn(u64, u64) -> bool> SearchRules
+    for CallRules<L, G, K> {
+    ghost are_rules = { λ call. AreJobRules call.is_steady
+        (L.pre call.rules.luby) (L.post call.rules.luby)
+        (G.pre call.rules.steady) (G.post call.rules.steady)
+        (K.pre call.rules.keep) (K.post call.rules.keep) };
+
+    ghost keeping = { λ call. K.post call.rules.keep };
+
+    fn restart(&self, restarts: u64) -> u64
+        requires { AreJobRules self.now.is_steady
+            (L.pre self.now.rules.luby) (L.post self.now.rules.luby)
+            (G.pre self.now.rules.steady) (G.post self.now.rules.steady)
+            (K.pre self.now.rules.keep) (K.post self.now.rules.keep) }
+        ensures luby { self.now.is_steady ≡ false
+            → L.post self.now.rules.luby restarts result }
+        ensures steady { self.now.is_steady ≡ true
+            → G.post self.now.rules.steady restarts result }
+        ensures positive { 1 ≤ result }
+    {
+        if self.is_steady {
+            (self.rules.steady)(restarts)
+        } else {
+            (self.rules.luby)(restarts)
+        }
+    }
+
+    fn keeps(&self, width: u64, age: u64) -> bool
+        requires { AreJobRules self.now.is_steady
+            (L.pre self.now.rules.luby) (L.post self.now.rules.luby)
+            (G.pre self.now.rules.steady) (G.post self.now.rules.steady)
+            (K.pre self.now.rules.keep) (K.post self.now.rules.keep) }
+        ensures rule { K.post self.now.rules.keep width age result }
+        ensures narrow { width ≤ 2 → result ≡ true }
+    {
+        (self.rules.keep)(width, age)
     }
 }
 

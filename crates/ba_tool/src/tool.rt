@@ -17,8 +17,8 @@ use crate::requests::{Request, read_request};
 use ba_answers::answers::Answer;
 use ba_answers::status::Status;
 use ba_cases::Texts;
-use ba_rules::rules::Rules;
-use ba_search::{RulesBy, SearchError, SearchRules};
+use ba_rules::rules::{CallRules, Rules};
+use ba_search::{SearchError, SearchRules};
 use ba_steps::StepSink;
 use ba_world::{World, WorldError};
 use mode_check::{CheckJob, check_texts};
@@ -183,49 +183,6 @@ where
     }
 }
 
-/// What a call comes to, before it is printed. It reads the words, and does what they ask for, by the restart rule
-/// that they name.
-///
-/// `SinkFailed`: the faults of `steps` rose. If a certificate is written, those of `steps` and of the world's writing
-/// count together. `Memory`: out of memory.
-fn answer<W, D, L, G, K>(
-    alloc: Global,
-    words: &[&str],
-    world: &mut W,
-    steps: &mut D,
-    rules: Rules<L, G, K>,
-) -> Result<Answer, SearchError>
-where
-    W: World,
-    D: StepSink + Drop,
-    L: Fn(u64) -> u64 + Drop,
-    G: Fn(u64) -> u64 + Drop,
-    K: Fn(u64, u64) -> bool + Drop,
-    requires rules { AreJobRules (steady_of (asked_by words.now))
-        (L.pre rules.luby) (L.post rules.luby) (G.pre rules.steady) (G.post rules.steady)
-        (K.pre rules.keep) (K.post rules.keep) }
-    ensures ends { RequestEnds (asked_by words.now)
-        (W.outside world.old) (W.outside world.new) (D.told steps.old) (D.told steps.new) result }
-    ensures bounded { GivesAtMost (most_given (asked_by words.now))
-        (W.outside world.old) (W.outside world.new) }
-{
-    let request = read_request(alloc, words)?;
-    let Rules { luby, steady, keep } = rules;
-    if request.is_steady() {
-        let rules = RulesBy {
-            restart: steady,
-            keep,
-        };
-        request_answer(alloc, world, &request, rules, steps)
-    } else {
-        let rules = RulesBy {
-            restart: luby,
-            keep,
-        };
-        request_answer(alloc, world, &request, rules, steps)
-    }
-}
-
 /// Prints a text by one call, and answers how the program then ends.
 fn show<W: World>(world: &mut W, text: &[u8], status: Status) -> Status
     ensures shown { IsPrinted text.now status (W.outside world.old) (W.outside world.new) result }
@@ -309,7 +266,15 @@ where
     // The sink writes where it wrote, and its count of faults does not fall.
     ensures outlasts { Outlasts (D.told steps.old) (D.told steps.new) }
 {
-    match answer(alloc, words, world, steps, rules) {
+    let request = match read_request(alloc, words) {
+        Ok(request) => request,
+        Err(_) => return Status::Memory,
+    };
+    let rules = CallRules {
+        rules,
+        is_steady: request.is_steady(),
+    };
+    match request_answer(alloc, world, &request, rules, steps) {
         Ok(answer) => finish(alloc, world, &answer),
         Err(SearchError::SinkFailed) => Status::WriteFault,
         Err(SearchError::Memory) => Status::Memory,

@@ -1,54 +1,70 @@
-use Rattle.std.proofs.Common.{inl, inr, refl, rules}
-use Rattle.ba_tool.specs.Calls.{memory, write_fault}
-use Rattle.ba_tool.proofs.Ending.{comes_write, ends_says}
+use Rattle.std.proofs.Common.{inl, inr, rules, sym, subst}
+use Rattle.ba_tool.specs.Calls.{Comes, Stops}
+use Rattle.ba_tool.specs.Requests.{MayBeDone}
+use Rattle.ba_tool.specs.declared.requests.Request.{Request}
+use Rattle.ba_tool.proofs.Bounded.{may_be_done}
 use Rattle.ba_tool.proofs.Due.{ends_where}
+use Rattle.ba_tool.proofs.Ending.{comes_write, ends_says}
 use Rattle.ba_tool.proofs.tool.tool.Goals as goal
 
-pub returns-in-Ok-clause-says : goal.returns-in-Ok-clause-says
-returns-in-Ok-clause-says g c = ends_says _ c.in-Ok.answer c.finish.result
+pub request_answer-requires-clause-request : goal.request_answer-requires-clause-request
+request_answer-requires-clause-request g c = subst MayBeDone (sym c.in-Ok.ensures) (may_be_done _)
+
+pub returns-in-Ok-request_answer-clause-says : goal.returns-in-Ok-request_answer-clause-says
+returns-in-Ok-request_answer-clause-says g c = ends_says _ c.in-Ok-request_answer.answer c.finish.result
     (record {
-      written = g.W.World.outside c.answer.new.world;
-      comes = c.in-Ok.ensures.ends.answer;
+      written = g.W.World.outside c.request_answer.new.world;
+      comes = subst (λ (r : Request). Comes r (g.W.World.outside c.args.world.now)
+          (g.W.World.outside c.request_answer.new.world) (g.D.StepSink.told c.args.steps.now)
+          (g.D.StepSink.told c.request_answer.new.steps) c.in-Ok-request_answer.answer) c.in-Ok.ensures
+          c.in-Ok-request_answer.ensures.ends.answer;
       prints = c.finish.ensures.stays;
       shown = c.finish.ensures.shown;
       prefix = c.finish.ensures.prefix;
-      stops = c.answer.ensures.ends.left;
+      stops = subst (λ (r : Request). Stops r (g.W.World.outside c.args.world.now)
+          (g.W.World.outside c.request_answer.new.world) (g.D.StepSink.told c.args.steps.now)
+          (g.D.StepSink.told c.request_answer.new.steps)) c.in-Ok.ensures
+          c.request_answer.ensures.ends.left;
     })
 
-pub returns-in-Ok-clause-where_told : goal.returns-in-Ok-clause-where_told
-returns-in-Ok-clause-where_told g c = ends_where _ c.in-Ok.answer c.finish.result
-    (record {
-      written = g.W.World.outside c.answer.new.world;
-      comes = c.in-Ok.ensures.ends.answer;
+pub returns-in-Ok-request_answer-clause-where_told : goal.returns-in-Ok-request_answer-clause-where_told
+returns-in-Ok-request_answer-clause-where_told g c = ends_where _ c.in-Ok-request_answer.answer
+    c.finish.result (record {
+      written = g.W.World.outside c.request_answer.new.world;
+      comes = subst (λ (r : Request). Comes r (g.W.World.outside c.args.world.now)
+          (g.W.World.outside c.request_answer.new.world) (g.D.StepSink.told c.args.steps.now)
+          (g.D.StepSink.told c.request_answer.new.steps) c.in-Ok-request_answer.answer) c.in-Ok.ensures
+          c.in-Ok-request_answer.ensures.ends.answer;
       prints = c.finish.ensures.stays;
       shown = c.finish.ensures.shown;
       prefix = c.finish.ensures.prefix;
-      stops = c.answer.ensures.ends.left;
+      stops = subst (λ (r : Request). Stops r (g.W.World.outside c.args.world.now)
+          (g.W.World.outside c.request_answer.new.world) (g.D.StepSink.told c.args.steps.now)
+          (g.D.StepSink.told c.request_answer.new.steps)) c.in-Ok.ensures
+          c.request_answer.ensures.ends.left;
     })
 
-pub returns-in-Ok-clause-stays : goal.returns-in-Ok-clause-stays
-returns-in-Ok-clause-stays g c = comes_write _ _ _ _ _ _ c.in-Ok.answer c.in-Ok.ensures.ends.answer
+pub returns-in-Ok-request_answer-clause-stays : goal.returns-in-Ok-request_answer-clause-stays
+returns-in-Ok-request_answer-clause-stays g c = comes_write _ _ _ _ _ _ c.in-Ok-request_answer.answer
+    (subst (λ (r : Request). Comes r (g.W.World.outside c.args.world.now)
+    (g.W.World.outside c.request_answer.new.world) (g.D.StepSink.told c.args.steps.now)
+    (g.D.StepSink.told c.request_answer.new.steps) c.in-Ok-request_answer.answer) c.in-Ok.ensures
+    c.in-Ok-request_answer.ensures.ends.answer)
     c.finish.ensures.stays
 
 pub returns-in-Err-SinkFailed-clause-says : goal.returns-in-Err-SinkFailed-clause-says
 returns-in-Err-SinkFailed-clause-says g c =
-    let fault = c.answer.ensures.ends.cause in inr (search (rules, fault), c.answer.ensures.ends.left)
+    let same = c.in-Ok.ensures in
+    let fault = c.request_answer.ensures.ends.cause in
+    inr (
+      search (rules, fault, same),
+      subst (λ (r : Request). Stops r (g.W.World.outside c.args.world.now)
+          (g.W.World.outside c.request_answer.new.world) (g.D.StepSink.told c.args.steps.now)
+          (g.D.StepSink.told c.request_answer.new.steps)) c.in-Ok.ensures c.request_answer.ensures.ends.left,
+    )
 
 pub returns-in-Err-Memory-clause-says : goal.returns-in-Err-Memory-clause-says
-returns-in-Err-Memory-clause-says g c = inl c.answer.ensures.ends.left
-
-pub returns-in-Err-SinkFailed-clause-where_told : goal.returns-in-Err-SinkFailed-clause-where_told
-returns-in-Err-SinkFailed-clause-where_told g c =
-    let fault = c.answer.ensures.ends.cause in
-    record {
-      due = λ a is. write_fault refl (search (rules, fault));
-      failing = λ failing. write_fault refl (search (rules, fault));
-      checking = λ name file checking told. write_fault refl (search (rules, fault));
-    }
-
-pub returns-in-Err-Memory-clause-where_told : goal.returns-in-Err-Memory-clause-where_told
-returns-in-Err-Memory-clause-where_told g c = record {
-  due = λ a is. memory refl;
-  failing = λ failing. memory refl;
-  checking = λ name file checking told. memory refl;
-}
+returns-in-Err-Memory-clause-says g c = inl (subst (λ (r : Request). Stops r
+    (g.W.World.outside c.args.world.now) (g.W.World.outside c.request_answer.new.world)
+    (g.D.StepSink.told c.args.steps.now) (g.D.StepSink.told c.request_answer.new.steps)) c.in-Ok.ensures
+    c.request_answer.ensures.ends.left)
