@@ -647,6 +647,9 @@ words '501: the value is a whole number of at most seven digits, from 1 to 500' 
 words '--restart Luby: the value is luby or steady' localise p i --bound 3 --restart Luby
 words '--bound: the option has to be given: the turns of each entry of a loop, 1 to 128' localise p.c in.txt
 words '--bound: an option stands at most once' run p i --bound 3 --bound=3
+words '--places: the option does not stand beside --cert: no certificate is written for places' localise p i --bound 3 --cert c --places
+words '--places=1: this is no option of the mode, whose options are --bound --depth --weights --conflicts --sets --cert --restart --runs --places' \
+    localise p i --bound 3 --places=1
 words 'INPUT: this has to be given; the mode takes PROGRAM INPUT' run p --bound 3
 words 'c: this is one too many; the mode takes PROGRAM INPUT' run p i c --bound 3
 words "'': no word may be empty" run p '' --bound 3

@@ -12,7 +12,7 @@ set_usage() {
     case $1 in
         localise)
             valued='bound depth weights conflicts sets cert restart'
-            plain=runs
+            plain='runs places'
             ;;
         check)
             valued='bound depth weights conflicts sets'
@@ -159,6 +159,8 @@ read_words() {
             blame 'words missing' "${wanted%% *}" " $files"
         elif is_among bound "$valued" && ! is_among bound "$given"; then
             blame 'words bound' --bound
+        elif is_among places "$given" && is_among cert "$given"; then
+            blame 'words places' --places
         fi
     fi
 }

@@ -1,9 +1,10 @@
 -- What `clap` finds in words gives the command that the words are.
 use Rattle.std.proofs.Math.Bool.{and-false}
-use Rattle.std.proofs.Common.{◌≡◌, ℕ, suc, Bool, true, false, cond, ◌&&◌, ◌||◌, ◌==◌, not, inl, inr, Option, None, Some, List, [], ◌∷◌, ◌++◌, length, take, drop, codes, refl, sym, ap, ap₂, ◌∙◌, arith, fold, subst, true≢false}
+use Rattle.std.proofs.Common.{◌≡◌, ℕ, suc, Bool, true, false, cond, ◌&&◌, ◌||◌, ◌==◌, not, inl, inr, Option, None, Some, List, [], ◌∷◌, length, take, drop, codes, refl, sym, ap, ap₂, ◌∙◌, arith, fold, subst, true≢false}
 use Rattle.std.specs.Prelude.{nat_le, option_and_then, find, is_some, slice_get}
 use Rattle.std.specs.List.{list_all}
 use Rattle.std.specs.Str.{bytes_eq}
+use Rattle.std.proofs.lemmas.Bool.{not-true}
 use Rattle.std.proofs.lemmas.Bool.Decides.{nat_tests}
 use Rattle.clap.specs.Faults.{entered_fault, fault_of, level_fault}
 use Rattle.clap.specs.Kinds.{Kinds}
@@ -11,8 +12,8 @@ use Rattle.clap.specs.Matches.{first_value, one_text}
 use Rattle.clap.specs.Simple.{App, built, entered, matches_of}
 use Rattle.clap.specs.Walk.{Row, first_of as first_value_of, has_row, idle, nothing_held, one_of, row_text, rows_of, walk, with_default}
 use Rattle.clap.specs.declared.parser.matches.Found.{Found}
-use Rattle.clap.specs.declared.parser.matches.ValueSource.TheVariants.{DefaultValue}
 use Rattle.clap.proofs.WalkLemmas.{first_value-rows, one_text-rows}
+use Rattle.ba_tree.proofs.Tests.{both}
 use Rattle.ba_commands.specs.declared.commands.Command.{Command}
 use Rattle.ba_commands.specs.declared.modes.Mode.{Mode}
 use Rattle.ba_commands.specs.declared.modes.Mode.TheVariants.{Localise, Check, Run, Rank, Sample}
@@ -20,14 +21,14 @@ use Rattle.ba_commands.specs.Modes.{Usage, Word, usage_of}
 use Rattle.ba_commands.specs.Words.{Part, are_distinct, files_in, has_bound, is_accepted, is_line, options_in, parts_of, split_words, stands}
 use Rattle.ba_commands.specs.Commands.{bounds_from, check_from, command_in, command_of_parts, command_on, command_with, file_at, localise_from, number_of, rank_from, run_from, sample_from, value_in}
 use Rattle.ba_commands.specs.Parsing.{app_for, is_readable}
-use Rattle.ba_commands.proofs.Testing.{eq_comm, neither, not_both, same_either}
+use Rattle.ba_commands.proofs.Testing.{eq_comm, not_both, same_either}
 use Rattle.ba_commands.proofs.Splitting.{IsRefused, readable_accepted, unreadable_refused}
 use Rattle.ba_commands.proofs.Rows.{Agrees, held, row}
 use Rattle.ba_commands.proofs.Turns.{walk_at}
 use Rattle.ba_commands.proofs.Taking.{Use, fits, names_of_uses, rows_of_uses, taken, taken-first, taken_all, uses_of}
 use Rattle.ba_commands.proofs.Walking.{faults_from, rows_from, whole_walk}
 use Rattle.ba_commands.proofs.Placing.{differs, first-file, first-option, first-switch, fits-length, is_known, each_option, parts-known, uses-distinct, uses-stand, value-none}
-use Rattle.ba_commands.proofs.Finishing.{first-finished, no_defaults, one_default, switch_rule, switched_off, switched_on}
+use Rattle.ba_commands.proofs.Finishing.{defaults_behind, find-finished, has_row-finished, no_defaults, switch_rule, switch_text}
 use Rattle.ba_commands.proofs.ModeFacts.{fits_mode, rules_in}
 
 -- THE CALL OF `clap` is the walk over the words behind the first
@@ -52,25 +53,38 @@ matches_of-walk u first words = refl
 
 -- THE ROWS AT THE END
 
-localise-finished : (rows : List Row)
-    → fold with_default rows (rules_in (usage_of Localise)) ≡ with_default rows (switch_rule (codes "runs"))
-localise-finished rows = one_default (take 7 (rules_in (usage_of Localise)))
-    (drop 8 (rules_in (usage_of Localise))) (switch_rule (codes "runs")) rows
-    (refl, (refl, (refl, (refl, (refl, (refl, (refl, tt))))))) (refl, (refl, tt))
+-- the defaults of `--runs` and of `--places`
+abbrev with_switches : List Row → List Row
+with_switches rows =
+    with_default (with_default rows (switch_rule (codes "runs"))) (switch_rule (codes "places"))
 
-finished-first : (mode : Mode) (name : Word) (rows : List Row) → bytes_eq (codes "runs") name ≡ false
+localise-finished : (rows : List Row)
+    → fold with_default rows (rules_in (usage_of Localise)) ≡ with_switches rows
+localise-finished rows =
+    defaults_behind (take 7 (rules_in (usage_of Localise))) (drop 7 (rules_in (usage_of Localise))) rows
+    (refl, (refl, (refl, (refl, (refl, (refl, (refl, tt)))))))
+    ∙ no_defaults (drop 9 (rules_in (usage_of Localise))) (with_switches rows) (refl, (refl, tt))
+
+finished-first : (mode : Mode) (name : Word) (rows : List Row)
+    → list_all (differs name) (usage_of mode).plain ≡ true
     → first_value_of name (fold with_default rows (rules_in (usage_of mode))) ≡ first_value_of name rows
-finished-first Localise name rows e = ap (first_value_of name) (localise-finished rows)
-    ∙ first-finished name (codes "runs") rows e
-finished-first Check name rows e = ap (first_value_of name)
+finished-first Localise name rows plain =
+    let each = both (differs name (codes "runs")) (differs name (codes "places") && true) plain in
+    let places = both (differs name (codes "places")) true each.1 in
+    ap (first_value_of name) (localise-finished rows)
+    ∙ ap (option_and_then (λ (r : Row). slice_get r.values 0))
+    (find-finished name (codes "places") (with_default rows (switch_rule (codes "runs")))
+    (not-true (bytes_eq (codes "places") name) places.0)
+    ∙ find-finished name (codes "runs") rows (not-true (bytes_eq (codes "runs") name) each.0))
+finished-first Check name rows plain = ap (first_value_of name)
     (no_defaults (rules_in (usage_of Check)) rows
     (refl, (refl, (refl, (refl, (refl, (refl, (refl, (refl, tt)))))))))
-finished-first Run name rows e =
+finished-first Run name rows plain =
     ap (first_value_of name) (no_defaults (rules_in (usage_of Run)) rows (refl, (refl, (refl, (refl, tt)))))
-finished-first Rank name rows e = ap (first_value_of name)
+finished-first Rank name rows plain = ap (first_value_of name)
     (no_defaults (rules_in (usage_of Rank)) rows
     (refl, (refl, (refl, (refl, (refl, (refl, (refl, (refl, tt)))))))))
-finished-first Sample name rows e =
+finished-first Sample name rows plain =
     ap (first_value_of name) (no_defaults (rules_in (usage_of Sample)) rows (refl, tt))
 
 -- what was found, where the words have these parts
@@ -80,28 +94,26 @@ record IsFound (mode : Mode) (parts : List Part) (found : Found) : Type 0 where
       ≡ fold with_default (rows_of_uses (uses_of parts (usage_of mode).files)) (rules_in (usage_of mode))
 
 found-first : (mode : Mode) (parts : List Part) (found : Found) (name : Word) → IsFound mode parts found
-    → bytes_eq (codes "runs") name ≡ false
+    → list_all (differs name) (usage_of mode).plain ≡ true
     → first_value found name ≡ first_value_of name (rows_of_uses (uses_of parts (usage_of mode).files))
-found-first mode parts found name f e = first_value-rows found name ∙ ap (first_value_of name) f.rows
-    ∙ finished-first mode name (rows_of_uses (uses_of parts (usage_of mode).files)) e
+found-first mode parts found name f plain = first_value-rows found name ∙ ap (first_value_of name) f.rows
+    ∙ finished-first mode name (rows_of_uses (uses_of parts (usage_of mode).files)) plain
 
 value-found : (mode : Mode) (parts : List Part) (found : Found) (name : Word) → IsFound mode parts found
-    → bytes_eq (codes "runs") name ≡ false
     → list_all (differs name) (usage_of mode).plain ≡ true
     → list_all (differs name) (usage_of mode).files ≡ true
     → value_in parts name ≡ first_value found name
-value-found mode parts found name f e plain files = sym (found-first mode parts found name f e
+value-found mode parts found name f plain files = sym (found-first mode parts found name f plain
     ∙ first-option (usage_of mode) name parts (usage_of mode).files f.known plain files)
 
 file-found : (mode : Mode) (parts : List Part) (found : Found) (name : Word) → IsFound mode parts found
-    → bytes_eq (codes "runs") name ≡ false
     → list_all (differs name) (usage_of mode).valued ≡ true
     → list_all (differs name) (usage_of mode).plain ≡ true
     → file_at (usage_of mode).files (files_in parts) name ≡ first_value found name
-file-found mode parts found name f e valued plain = sym (found-first mode parts found name f e
+file-found mode parts found name f valued plain = sym (found-first mode parts found name f plain
     ∙ first-file (usage_of mode) name parts (usage_of mode).files f.known valued plain)
 
--- THE SWITCH `--runs`
+-- THE SWITCHES `--runs` and `--places`
 
 has_row-uses : (name : Word) (uses : List Use)
     → has_row name (rows_of_uses uses) ≡ stands name (names_of_uses uses)
@@ -123,114 +135,142 @@ one_of-uses name (u ∷ uses) = by (bytes_eq u.0 name) (one_of-uses name uses)
     by true h = refl
     by false h = h
 
-find-last : (name : Word) (rows : List Row) (r : Row) → has_row name rows ≡ false → bytes_eq r.id name ≡ true
-    → find (λ (r : Row). bytes_eq r.id name) (rows ++ r ∷ []) ≡ Some r
-find-last name [] r none here = ap (λ b. cond b (Some r) None) here
-find-last name (x ∷ rows) r none here =
-    let each = neither (bytes_eq x.id name) (has_row name rows) none in
-    ap (λ b. cond b (Some x) (find (λ (r : Row). bytes_eq r.id name) (rows ++ r ∷ []))) each.0
-    ∙ find-last name rows r each.1 here
+-- how a switch was read
+pub record IsRead (found : Found) (name : Word) (given : Bool) : Type 0 where
+  pub on : one_text found name ≡ Some (codes "true") → given ≡ true
+  pub off : one_text found name ≡ Some (codes "false") → given ≡ false
 
--- how the switch was read
-pub record IsRead (found : Found) (runs : Bool) : Type 0 where
-  pub on : one_text found (codes "runs") ≡ Some (codes "true") → runs ≡ true
-  pub off : one_text found (codes "runs") ≡ Some (codes "false") → runs ≡ false
+-- how the switches were read
+pub record AreRead (found : Found) (runs places : Bool) : Type 0 where
+  pub runs_read : IsRead found (codes "runs") runs
+  pub places_read : IsRead found (codes "places") places
 
-switch-found : (parts : List Part) (found : Found) (runs : Bool) → IsFound Localise parts found
-    → IsRead found runs
-    → stands (codes "runs") (options_in parts) ≡ runs
-switch-found parts found runs f read = by (stands (codes "runs") (options_in parts)) refl
+abbrev localise_rows : List Part → List Row
+localise_rows parts = rows_of_uses (uses_of parts (usage_of Localise).files)
+
+-- what is found of a switch: the text of its use, or `false`
+abbrev HasText : List Part → Found → Word → Type 0
+HasText parts found name = one_text found name
+    ≡ cond (has_row name (localise_rows parts)) (one_of name (localise_rows parts)) (Some (codes "false"))
+
+text-found : (parts : List Part) (found : Found) (name : Word) → IsFound Localise parts found
+    → one_text found name ≡ one_of name (with_switches (localise_rows parts))
+text-found parts found name f =
+    one_text-rows found name ∙ ap (one_of name) (f.rows ∙ localise-finished (localise_rows parts))
+
+runs_text : (parts : List Part) (found : Found) → IsFound Localise parts found
+    → HasText parts found (codes "runs")
+runs_text parts found f =
+    let rows = localise_rows parts in
+    text-found parts found (codes "runs") f
+    ∙ ap (option_and_then row_text) (find-finished (codes "runs") (codes "places")
+    (with_default rows (switch_rule (codes "runs"))) refl)
+    ∙ switch_text (codes "runs") rows (has_row (codes "runs") rows) refl
+
+places_text : (parts : List Part) (found : Found) → IsFound Localise parts found
+    → HasText parts found (codes "places")
+places_text parts found f =
+    let rows = localise_rows parts in
+    text-found parts found (codes "places") f
+    ∙ switch_text (codes "places") (with_default rows (switch_rule (codes "runs")))
+    (has_row (codes "places") rows) (has_row-finished (codes "places") (codes "runs") rows refl)
+    ∙ ap (λ o. cond (has_row (codes "places") rows) (option_and_then row_text o) (Some (codes "false")))
+    (find-finished (codes "places") (codes "runs") rows refl)
+
+switch-found : (parts : List Part) (found : Found) (name : Word) (given : Bool) → IsFound Localise parts found
+    → list_all (differs name) (usage_of Localise).valued ≡ true
+    → list_all (differs name) (usage_of Localise).files ≡ true
+    → stands name (usage_of Localise).files ≡ false
+    → HasText parts found name → IsRead found name given
+    → stands name (options_in parts) ≡ given
+switch-found parts found name given f valued files no_file text read =
+    by (stands name (options_in parts)) refl
   where
     places : List Word
     places = (usage_of Localise).files
 
-    rows : List Row
-    rows = rows_of_uses (uses_of parts places)
+    there : has_row name (localise_rows parts) ≡ stands name (options_in parts)
+    there = has_row-uses name (uses_of parts places) ∙ uses-stand name parts places no_file
 
-    there : has_row (codes "runs") rows ≡ stands (codes "runs") (options_in parts)
-    there = has_row-uses (codes "runs") (uses_of parts places) ∙ uses-stand (codes "runs") parts places refl
+    said : (b : Bool) → stands name (options_in parts) ≡ b
+        → one_text found name ≡ cond b (one_of name (localise_rows parts)) (Some (codes "false"))
+    said b s = text
+        ∙ ap (λ b. cond b (one_of name (localise_rows parts)) (Some (codes "false"))) (there ∙ s)
 
-    text : one_text found (codes "runs")
-        ≡ one_of (codes "runs") (with_default rows (switch_rule (codes "runs")))
-    text = one_text-rows found (codes "runs") ∙ ap (one_of (codes "runs")) (f.rows ∙ localise-finished rows)
-
-    by : (b : Bool) → stands (codes "runs") (options_in parts) ≡ b → b ≡ runs
-    by true s = sym (read.on (text ∙ ap (one_of (codes "runs")) (switched_on (codes "runs") rows (there ∙ s))
-        ∙ one_of-uses (codes "runs") (uses_of parts places)
-        ∙ first-switch (usage_of Localise) (codes "runs") parts places f.known refl refl
+    by : (b : Bool) → stands name (options_in parts) ≡ b → b ≡ given
+    by true s = sym (read.on (said true s ∙ one_of-uses name (uses_of parts places)
+        ∙ first-switch (usage_of Localise) name parts places f.known valued files
         ∙ ap (λ b. cond b (Some (codes "true")) None) s))
-    by false s =
-        sym (read.off (text ∙ ap (one_of (codes "runs")) (switched_off (codes "runs") rows (there ∙ s))
-        ∙ ap (option_and_then row_text)
-        (find-last (codes "runs") rows (record (row (codes "runs") (codes "false")) {
-          source = Some DefaultValue;
-        }) (there ∙ s) refl)))
+    by false s = sym (read.off (said false s))
 
 -- THE COMMAND of the parts is that of what was found
 
-same_command : (mode : Mode) (parts : List Part) (found : Found) (runs : Bool) → IsFound mode parts found
-    → IsRead found runs
-    → command_of_parts mode parts ≡ command_with mode (first_value found) (first_value found) runs
-same_command Localise parts found runs f read =
+same_command : (mode : Mode) (parts : List Part) (found : Found) (runs places : Bool)
+    → IsFound mode parts found → AreRead found runs places
+    → command_of_parts mode parts ≡ command_with mode (first_value found) (first_value found) runs places
+same_command Localise parts found runs places f read =
     let value = value-found Localise parts found in
     let place = file-found Localise parts found in
-    let program = place (codes "PROGRAM") f refl refl refl in
-    let input = place (codes "INPUT") f refl refl refl in
-    let bound = value (codes "bound") f refl refl refl in
-    let depth = value (codes "depth") f refl refl refl in
-    let weights = value (codes "weights") f refl refl refl in
-    let conflicts = value (codes "conflicts") f refl refl refl in
-    let sets = value (codes "sets") f refl refl refl in
-    let cert = value (codes "cert") f refl refl refl in
-    let restart = value (codes "restart") f refl refl refl in
-    let on = switch-found parts found runs f read in
+    let program = place (codes "PROGRAM") f refl refl in
+    let input = place (codes "INPUT") f refl refl in
+    let bound = value (codes "bound") f refl refl in
+    let depth = value (codes "depth") f refl refl in
+    let weights = value (codes "weights") f refl refl in
+    let conflicts = value (codes "conflicts") f refl refl in
+    let sets = value (codes "sets") f refl refl in
+    let cert = value (codes "cert") f refl refl in
+    let restart = value (codes "restart") f refl refl in
+    let on = switch-found parts found (codes "runs") runs f refl refl refl (runs_text parts found f)
+    read.runs_read in
+    let single = switch-found parts found (codes "places") places f refl refl refl (places_text parts found f)
+    read.places_read in
     λ i. localise_from (program i) (input i) (bounds_from (bound i) (depth i)) (weights i) (conflicts i)
-    (sets i) (cert i) (on i) (restart i)
-same_command Check parts found runs f read =
+    (sets i) (cert i) (on i) (single i) (restart i)
+same_command Check parts found runs places f read =
     let value = value-found Check parts found in
     let place = file-found Check parts found in
-    let program = place (codes "PROGRAM") f refl refl refl in
-    let input = place (codes "INPUT") f refl refl refl in
-    let cert = place (codes "CERT") f refl refl refl in
-    let bound = value (codes "bound") f refl refl refl in
-    let depth = value (codes "depth") f refl refl refl in
-    let weights = value (codes "weights") f refl refl refl in
-    let conflicts = value (codes "conflicts") f refl refl refl in
-    let sets = value (codes "sets") f refl refl refl in
+    let program = place (codes "PROGRAM") f refl refl in
+    let input = place (codes "INPUT") f refl refl in
+    let cert = place (codes "CERT") f refl refl in
+    let bound = value (codes "bound") f refl refl in
+    let depth = value (codes "depth") f refl refl in
+    let weights = value (codes "weights") f refl refl in
+    let conflicts = value (codes "conflicts") f refl refl in
+    let sets = value (codes "sets") f refl refl in
     λ i. check_from (program i) (input i) (cert i) (bounds_from (bound i) (depth i)) (weights i) (conflicts i)
     (sets i)
-same_command Run parts found runs f read =
+same_command Run parts found runs places f read =
     let value = value-found Run parts found in
     let place = file-found Run parts found in
-    let program = place (codes "PROGRAM") f refl refl refl in
-    let input = place (codes "INPUT") f refl refl refl in
-    let bound = value (codes "bound") f refl refl refl in
-    let depth = value (codes "depth") f refl refl refl in
+    let program = place (codes "PROGRAM") f refl refl in
+    let input = place (codes "INPUT") f refl refl in
+    let bound = value (codes "bound") f refl refl in
+    let depth = value (codes "depth") f refl refl in
     λ i. run_from (program i) (input i) (bounds_from (bound i) (depth i))
-same_command Rank parts found runs f read =
+same_command Rank parts found runs places f read =
     let value = value-found Rank parts found in
     let place = file-found Rank parts found in
-    let program = place (codes "PROGRAM") f refl refl refl in
-    let inputs = place (codes "INPUTS") f refl refl refl in
-    let bound = value (codes "bound") f refl refl refl in
-    let depth = value (codes "depth") f refl refl refl in
-    let weights = value (codes "weights") f refl refl refl in
-    let conflicts = value (codes "conflicts") f refl refl refl in
-    let sets = value (codes "sets") f refl refl refl in
-    let restart = value (codes "restart") f refl refl refl in
+    let program = place (codes "PROGRAM") f refl refl in
+    let inputs = place (codes "INPUTS") f refl refl in
+    let bound = value (codes "bound") f refl refl in
+    let depth = value (codes "depth") f refl refl in
+    let weights = value (codes "weights") f refl refl in
+    let conflicts = value (codes "conflicts") f refl refl in
+    let sets = value (codes "sets") f refl refl in
+    let restart = value (codes "restart") f refl refl in
     λ i. rank_from (program i) (inputs i) (bounds_from (bound i) (depth i)) (weights i) (conflicts i)
     (sets i) (restart i)
-same_command Sample parts found runs f read =
-    let additions = file-found Sample parts found (codes "N") f refl refl refl in
+same_command Sample parts found runs places f read =
+    let additions = file-found Sample parts found (codes "N") f refl refl in
     λ i. sample_from (number_of 1 500 (additions i))
 
 -- A LINE THAT LACKS a file name, or `--bound`, is no command
 
-localise-unbounded : (a b c d e f g : Option Word) (runs : Bool)
-    → localise_from a b None c d e f runs g ≡ None
-localise-unbounded None b c d e f g runs = refl
-localise-unbounded (Some a) None c d e f g runs = refl
-localise-unbounded (Some a) (Some b) c d e f g runs = refl
+localise-unbounded : (a b c d e f g : Option Word) (runs places : Bool)
+    → localise_from a b None c d e f runs places g ≡ None
+localise-unbounded None b c d e f g runs places = refl
+localise-unbounded (Some a) None c d e f g runs places = refl
+localise-unbounded (Some a) (Some b) c d e f g runs places = refl
 
 check-unbounded : (a b c d e f : Option Word) → check_from a b c None d e f ≡ None
 check-unbounded None b c d e f = refl
@@ -248,72 +288,72 @@ rank-unbounded None b c d e f = refl
 rank-unbounded (Some a) None c d e f = refl
 rank-unbounded (Some a) (Some b) c d e f = refl
 
-unbounded : (mode : Mode) (place value : Word → Option Word) (runs : Bool)
+unbounded : (mode : Mode) (place value : Word → Option Word) (runs places : Bool)
     → stands (codes "bound") (usage_of mode).valued ≡ true
-    → value (codes "bound") ≡ None → command_with mode place value runs ≡ None
-unbounded Localise place value runs has none =
+    → value (codes "bound") ≡ None → command_with mode place value runs places ≡ None
+unbounded Localise place value runs places has none =
     ap (λ b. localise_from (place (codes "PROGRAM")) (place (codes "INPUT"))
     (bounds_from b (value (codes "depth"))) (value (codes "weights"))
-    (value (codes "conflicts")) (value (codes "sets")) (value (codes "cert")) runs (value (codes "restart")))
-    none
+    (value (codes "conflicts")) (value (codes "sets")) (value (codes "cert")) runs places
+    (value (codes "restart"))) none
     ∙ localise-unbounded (place (codes "PROGRAM")) (place (codes "INPUT")) (value (codes "weights"))
     (value (codes "conflicts"))
-    (value (codes "sets")) (value (codes "cert")) (value (codes "restart")) runs
-unbounded Check place value runs has none =
+    (value (codes "sets")) (value (codes "cert")) (value (codes "restart")) runs places
+unbounded Check place value runs places has none =
     ap (λ b. check_from (place (codes "PROGRAM")) (place (codes "INPUT")) (place (codes "CERT"))
     (bounds_from b (value (codes "depth")))
     (value (codes "weights")) (value (codes "conflicts")) (value (codes "sets"))) none
     ∙ check-unbounded (place (codes "PROGRAM")) (place (codes "INPUT")) (place (codes "CERT"))
     (value (codes "weights"))
     (value (codes "conflicts")) (value (codes "sets"))
-unbounded Run place value runs has none =
+unbounded Run place value runs places has none =
     ap (λ b. run_from (place (codes "PROGRAM")) (place (codes "INPUT"))
     (bounds_from b (value (codes "depth")))) none
     ∙ run-unbounded (place (codes "PROGRAM")) (place (codes "INPUT"))
-unbounded Rank place value runs has none =
+unbounded Rank place value runs places has none =
     ap (λ b. rank_from (place (codes "PROGRAM")) (place (codes "INPUTS"))
     (bounds_from b (value (codes "depth"))) (value (codes "weights"))
     (value (codes "conflicts")) (value (codes "sets")) (value (codes "restart"))) none
     ∙ rank-unbounded (place (codes "PROGRAM")) (place (codes "INPUTS")) (value (codes "weights"))
     (value (codes "conflicts")) (value (codes "sets")) (value (codes "restart"))
-unbounded Sample place value runs has none = absurd (true≢false (sym has))
+unbounded Sample place value runs places has none = absurd (true≢false (sym has))
 
-too_few : (mode : Mode) (files : List Word) (value : Word → Option Word) (runs : Bool)
+too_few : (mode : Mode) (files : List Word) (value : Word → Option Word) (runs places : Bool)
     → nat_le (length files) (length (usage_of mode).files) ≡ true
     → (length files == length (usage_of mode).files) ≡ false
-    → command_with mode (file_at (usage_of mode).files files) value runs ≡ None
-too_few Localise [] value runs few lacks = refl
-too_few Localise (a ∷ []) value runs few lacks = refl
-too_few Localise (a ∷ b ∷ []) value runs few lacks = absurd (true≢false lacks)
-too_few Localise (a ∷ b ∷ c ∷ files) value runs few lacks = absurd (three (length files) few)
+    → command_with mode (file_at (usage_of mode).files files) value runs places ≡ None
+too_few Localise [] value runs places few lacks = refl
+too_few Localise (a ∷ []) value runs places few lacks = refl
+too_few Localise (a ∷ b ∷ []) value runs places few lacks = absurd (true≢false lacks)
+too_few Localise (a ∷ b ∷ c ∷ files) value runs places few lacks = absurd (three (length files) few)
   where
     three : (n : ℕ) → nat_le (suc (suc (suc n))) 2 ≡ true → ⊥
     three n e = grind (arith, nat_tests)
-too_few Run [] value runs few lacks = refl
-too_few Run (a ∷ []) value runs few lacks = refl
-too_few Run (a ∷ b ∷ []) value runs few lacks = absurd (true≢false lacks)
-too_few Run (a ∷ b ∷ c ∷ files) value runs few lacks = absurd (three (length files) few)
+too_few Run [] value runs places few lacks = refl
+too_few Run (a ∷ []) value runs places few lacks = refl
+too_few Run (a ∷ b ∷ []) value runs places few lacks = absurd (true≢false lacks)
+too_few Run (a ∷ b ∷ c ∷ files) value runs places few lacks = absurd (three (length files) few)
   where
     three : (n : ℕ) → nat_le (suc (suc (suc n))) 2 ≡ true → ⊥
     three n e = grind (arith, nat_tests)
-too_few Check [] value runs few lacks = refl
-too_few Check (a ∷ []) value runs few lacks = refl
-too_few Check (a ∷ b ∷ []) value runs few lacks = refl
-too_few Check (a ∷ b ∷ c ∷ []) value runs few lacks = absurd (true≢false lacks)
-too_few Check (a ∷ b ∷ c ∷ d ∷ files) value runs few lacks = absurd (four (length files) few)
+too_few Check [] value runs places few lacks = refl
+too_few Check (a ∷ []) value runs places few lacks = refl
+too_few Check (a ∷ b ∷ []) value runs places few lacks = refl
+too_few Check (a ∷ b ∷ c ∷ []) value runs places few lacks = absurd (true≢false lacks)
+too_few Check (a ∷ b ∷ c ∷ d ∷ files) value runs places few lacks = absurd (four (length files) few)
   where
     four : (n : ℕ) → nat_le (suc (suc (suc (suc n)))) 3 ≡ true → ⊥
     four n e = grind (arith, nat_tests)
-too_few Rank [] value runs few lacks = refl
-too_few Rank (a ∷ []) value runs few lacks = refl
-too_few Rank (a ∷ b ∷ []) value runs few lacks = absurd (true≢false lacks)
-too_few Rank (a ∷ b ∷ c ∷ files) value runs few lacks = absurd (three (length files) few)
+too_few Rank [] value runs places few lacks = refl
+too_few Rank (a ∷ []) value runs places few lacks = refl
+too_few Rank (a ∷ b ∷ []) value runs places few lacks = absurd (true≢false lacks)
+too_few Rank (a ∷ b ∷ c ∷ files) value runs places few lacks = absurd (three (length files) few)
   where
     three : (n : ℕ) → nat_le (suc (suc (suc n))) 2 ≡ true → ⊥
     three n e = grind (arith, nat_tests)
-too_few Sample [] value runs few lacks = refl
-too_few Sample (a ∷ []) value runs few lacks = absurd (true≢false lacks)
-too_few Sample (a ∷ b ∷ files) value runs few lacks = absurd (two (length files) few)
+too_few Sample [] value runs places few lacks = refl
+too_few Sample (a ∷ []) value runs places few lacks = absurd (true≢false lacks)
+too_few Sample (a ∷ b ∷ files) value runs places few lacks = absurd (two (length files) few)
   where
     two : (n : ℕ) → nat_le (suc (suc n)) 1 ≡ true → ⊥
     two n e = grind (arith, nat_tests)
@@ -335,10 +375,11 @@ on_parts mode parts fit distinct =
         → cond (a && (are_distinct (options_in parts) && (not b || c))) whole None ≡ whole
     by false b c count has there =
         sym (too_few mode (files_in parts) (value_in parts) (stands (codes "runs") (options_in parts))
-        (sym (fits-length parts (usage_of mode).files) ∙ fit) count)
+        (stands (codes "places") (options_in parts)) (sym (fits-length parts (usage_of mode).files) ∙ fit)
+        count)
     by true true false count has there = ap (λ d. cond (d && false) whole None) distinct
         ∙ sym (unbounded mode (file_at (usage_of mode).files (files_in parts)) (value_in parts)
-        (stands (codes "runs") (options_in parts)) has
+        (stands (codes "runs") (options_in parts)) (stands (codes "places") (options_in parts)) has
         (value-none parts (codes "bound") there))
     by true true true count has there = ap (λ d. cond (d && true) whole None) distinct
     by true false c count has there = ap (λ d. cond (d && true) whole None) distinct
@@ -389,13 +430,13 @@ accepted-in : (mode : Mode) (words : List Word) → list_all (is_accepted (usage
 accepted-in mode words ok =
     ap (λ b. cond b (option_and_then (command_on mode) (parts_of (usage_of mode) words)) None) ok
 
-pub answered : (mode : Mode) (first : Word) (words : List Word) (found : Found) (runs : Bool)
+pub answered : (mode : Mode) (first : Word) (words : List Word) (found : Found) (runs places : Bool)
     → list_all (is_readable (usage_of mode)) words ≡ true
     → fault_of (app_for (usage_of mode)) (first ∷ words) ≡ []
-    → rows_of found ≡ matches_of (app_for (usage_of mode)) (first ∷ words) → IsRead found runs
+    → rows_of found ≡ matches_of (app_for (usage_of mode)) (first ∷ words) → AreRead found runs places
     → command_in mode (split_words (usage_of mode) words)
-    ≡ command_with mode (first_value found) (first_value found) runs
-answered mode first words found runs ok none is read =
+    ≡ command_with mode (first_value found) (first_value found) runs places
+answered mode first words found runs places ok none is read =
     accepted-in mode (split_words u words) (readable_accepted u words ok)
     ∙ by (parts_of u (split_words u words)) refl walked
   where
@@ -417,9 +458,9 @@ answered mode first words found runs ok none is read =
     chosen : (parts : List Part) (f d : Bool) → fits parts u.files ≡ f → are_distinct (options_in parts) ≡ d
         → list_all (is_known u) parts ≡ true
         → Agrees kinds rows (cond (f && d) (Some (rows_of_uses (uses_of parts u.files))) None)
-        → command_on mode parts ≡ command_with mode (first_value found) (first_value found) runs
+        → command_on mode parts ≡ command_with mode (first_value found) (first_value found) runs places
     chosen parts true true f d known agrees = on_parts mode parts f d
-        ∙ same_command mode parts found runs (record {
+        ∙ same_command mode parts found runs places (record {
           known = known;
           rows = is ∙ ap (λ r. fold with_default r (rules_in u)) agrees.1;
         }) read
@@ -429,6 +470,7 @@ answered mode first words found runs ok none is read =
     by : (o : Option (List Part)) → parts_of u (split_words u words) ≡ o
         → Agrees kinds rows (taken_all u.files o [])
         → option_and_then (command_on mode) o ≡ command_with mode (first_value found) (first_value found) runs
+        places
     by None are agrees = absurd (agrees no_fault)
     by (Some parts) are agrees =
         let known = parts-known u (split_words u words) parts are in

@@ -15,7 +15,7 @@ use Rattle.ba_commands.specs.Words.{mode_of, split_words}
 use Rattle.ba_commands.specs.Commands.{Reads, command_in, command_of, command_with}
 use Rattle.ba_commands.specs.Parsing.{IsParsedBy, app_for, is_readable}
 use Rattle.ba_commands.proofs.Testing.{list_all-map}
-use Rattle.ba_commands.proofs.Answering.{IsRead, answered, faulty_refused, unread_refused}
+use Rattle.ba_commands.proofs.Answering.{AreRead, answered, faulty_refused, unread_refused}
 
 abbrev Lent : Type 0
 Lent = List (Bor Word)
@@ -62,19 +62,19 @@ refused_command (word ∷ words) d mode Bad some is read parsed =
     (list_all-map (is_readable (usage_of mode)) (λ (word : Bor Word). word.now) words ∙ read) parsed
 
 -- it has read them
-pub found_command : (words : Lent) (d : Bor Word) (mode : Mode) (matches : ArgMatches) (runs : Bool)
+pub found_command : (words : Lent) (d : Bor Word) (mode : Mode) (matches : ArgMatches) (runs places : Bool)
     → 1 ≤ length words
     → Some mode ≡ mode_of (get_or words 0 d).now
     → list_all (λ (word : Bor Word). is_readable (usage_of mode) word.now) (drop 1 words) ≡ true
-    → IsParsedBy (app_for (usage_of mode)) (bytes words) (Ok matches) → IsRead (found_of matches) runs
+    → IsParsedBy (app_for (usage_of mode)) (bytes words) (Ok matches) → AreRead (found_of matches) runs places
     → command_of (bytes words)
-    ≡ command_with mode (first_value (found_of matches)) (first_value (found_of matches)) runs
-found_command [] d mode matches runs some is read parsed flag = absurd (omega arith)
-found_command (word ∷ words) d mode matches runs some is read parsed flag =
+    ≡ command_with mode (first_value (found_of matches)) (first_value (found_of matches)) runs places
+found_command [] d mode matches runs places some is read parsed flags = absurd (omega arith)
+found_command (word ∷ words) d mode matches runs places some is read parsed flags =
     first_command (word ∷ words) d some (Some mode) (sym is)
-    ∙ answered mode word.now (bytes words) (found_of matches) runs
+    ∙ answered mode word.now (bytes words) (found_of matches) runs places
     (list_all-map (is_readable (usage_of mode)) (λ (word : Bor Word). word.now) words ∙ read) parsed.0
-    parsed.1 flag
+    parsed.1 flags
 
 -- what was found is what is read
 pub read_found : (said found : Option Command) (answer : Result Command WordsError)

@@ -13,7 +13,7 @@ bound_missing = refl
 
 bound_with_equals : command_of (codes "localise" ∷ codes "p.c" ∷ codes "in.txt" ∷ codes "--bound=3" ∷ [])
     ≡ Some (command.Localise (codes "p.c") (codes "in.txt") (record { turns = 3; frames = 16 }) None 200000
-    1000 None false false)
+    1000 None false false false)
 unfolding command_of
 bound_with_equals = refl
 
@@ -21,9 +21,26 @@ options_in_any_order : command_of (codes "localise" ∷ codes "--runs" ∷ codes
     ∷ codes "a=b" ∷ codes "--restart=steady"
     ∷ codes "in.txt" ∷ codes "--bound" ∷ codes "128" ∷ codes "--depth" ∷ codes "01" ∷ [])
     ≡ Some (command.Localise (codes "p.c") (codes "in.txt") (record { turns = 128; frames = 1 })
-    (Some (codes "a=b")) 200000 1000 None true true)
+    (Some (codes "a=b")) 200000 1000 None true false true)
 unfolding command_of
 options_in_any_order = refl
+
+places_of_a_run : command_of (codes "localise" ∷ codes "--places" ∷ codes "p.c" ∷ codes "in.txt"
+    ∷ codes "--bound=3" ∷ [])
+    ≡ Some (command.Localise (codes "p.c") (codes "in.txt") (record { turns = 3; frames = 16 }) None 200000
+    1000 None false true false)
+unfolding command_of
+places_of_a_run = refl
+
+places_with_a_certificate : command_of (codes "localise" ∷ codes "p.c" ∷ codes "in.txt" ∷ codes "--bound=3"
+    ∷ codes "--cert=c" ∷ codes "--places" ∷ []) ≡ None
+unfolding command_of
+places_with_a_certificate = refl
+
+places_with_a_value : command_of (codes "localise" ∷ codes "p.c" ∷ codes "in.txt" ∷ codes "--bound=3"
+    ∷ codes "--places=1" ∷ []) ≡ None
+unfolding command_of
+places_with_a_value = refl
 
 bound_of_zero : command_of (codes "run" ∷ codes "p.c" ∷ codes "in.txt" ∷ codes "--bound" ∷ codes "0" ∷ [])
     ≡ None

@@ -67,10 +67,10 @@ fits_mode Localise = record {
       ),
     ),
   );
-  plain = (switch_facts refl refl refl, tt);
+  plain = (switch_facts refl refl refl, (switch_facts refl refl refl, tt));
   places = (refl, refl, refl, (refl, refl, refl, refl));
   no_default = defaults_pass (rules_in (usage_of Localise))
-      (refl, (refl, (refl, (refl, (refl, (refl, (refl, (refl, (refl, (refl, tt))))))))));
+      (refl, (refl, (refl, (refl, (refl, (refl, (refl, (refl, (refl, (refl, (refl, tt)))))))))));
   no_check = λ rows. refl;
 }
 fits_mode Check = record {

@@ -1,6 +1,6 @@
--- THE COMMAND that words are: rule 6, on numbers and restart rules, and the whole.
+-- THE COMMAND that words are: rule 6, on numbers, restart rules and `--places`, and the whole.
 
-use Rattle.std.specs.Prelude.{◌≡◌, ℕ, Bool, true, false, if◌then◌else◌, Option, None, Some, option_and_then, List, [], ◌∷◌, codes, bytes_eq, Result, Ok, Err}
+use Rattle.std.specs.Prelude.{◌≡◌, ℕ, Bool, true, false, not, ◌&&◌, if◌then◌else◌, Option, None, Some, is_some, option_and_then, List, [], ◌∷◌, codes, bytes_eq, Result, Ok, Err}
 use Rattle.std.specs.List.{list_all}
 use Rattle.ba_tree.specs.declared.run.Bounds.{Bounds}
 use Rattle.ba_commands.specs.declared.commands.Command.{Command}
@@ -19,7 +19,7 @@ abbrev pub ◌>>=◌ : {A B : Type 0} → Option A → (A → Option B) → Opti
 o >>= f = option_and_then f o
 
 -- RULE 6. A number is one to seven decimal digits with a value in its range. A restart rule is
--- `luby`, the default, or `steady`.
+-- `luby`, the default, or `steady`. `--cert` does not stand beside `--places`, for which no certificate is written.
 
 abbrev pub number_of : ℕ → ℕ → Option Word → Option ℕ
 number_of least most None = None
@@ -35,7 +35,7 @@ steady_in (Some word) =
     if bytes_eq word (codes "luby") then Some false
     else (if bytes_eq word (codes "steady") then Some true else None)
 
--- THE COMMAND of a mode, by its file names, its options' values, and whether `--runs` stands there
+-- THE COMMAND of a mode, by its file names, its options' values, and whether `--runs` and `--places` stand there
 
 abbrev pub bounds_from : Option Word → Option Word → Option Bounds
 bounds_from bound depth = do
@@ -43,16 +43,22 @@ bounds_from bound depth = do
   frames ← number_or 16 1 32 depth
   Some (record { turns = turns; frames = frames })
 
+-- whether `--cert` may stand here
+abbrev pub may_be_certified : Bool → Option Word → Bool
+may_be_certified places cert = not (places && is_some cert)
+
 abbrev pub localise_from : Option Word → Option Word → Option Bounds → Option Word → Option Word
-    → Option Word → Option Word → Bool → Option Word → Option Command
-localise_from program input bounds weights conflicts sets cert runs restart = do
+    → Option Word → Option Word → Bool → Bool → Option Word → Option Command
+localise_from program input bounds weights conflicts sets cert runs places restart = do
   program ← program
   input ← input
   bounds ← bounds
   conflicts ← number_or 200000 1 1000000 conflicts
   sets ← number_or 1000 1 10000 sets
   steady ← steady_in restart
-  Some (command.Localise program input bounds weights conflicts sets cert runs steady)
+  if may_be_certified places cert
+      then Some (command.Localise program input bounds weights conflicts sets cert runs places steady)
+      else None
 
 abbrev pub check_from : Option Word → Option Word → Option Word → Option Bounds → Option Word
     → Option Word → Option Word → Option Command
@@ -92,11 +98,11 @@ sample_from additions = do
 abbrev pub bounds_with : (Word → Option Word) → Option Bounds
 bounds_with value = bounds_from (value (codes "bound")) (value (codes "depth"))
 
-abbrev pub localise_with : (Word → Option Word) → (Word → Option Word) → Bool → Option Command
-localise_with name value runs =
+abbrev pub localise_with : (Word → Option Word) → (Word → Option Word) → Bool → Bool → Option Command
+localise_with name value runs places =
     localise_from (name (codes "PROGRAM")) (name (codes "INPUT")) (bounds_with value)
     (value (codes "weights")) (value (codes "conflicts")) (value (codes "sets"))
-    (value (codes "cert")) runs (value (codes "restart"))
+    (value (codes "cert")) runs places (value (codes "restart"))
 
 abbrev pub check_with : (Word → Option Word) → (Word → Option Word) → Option Command
 check_with name value =
@@ -116,12 +122,12 @@ rank_with name value =
 abbrev pub sample_with : (Word → Option Word) → Option Command
 sample_with name = sample_from (number_of 1 500 (name (codes "N")))
 
-abbrev pub command_with : Mode → (Word → Option Word) → (Word → Option Word) → Bool → Option Command
-command_with Localise name value runs = localise_with name value runs
-command_with Check name value runs = check_with name value
-command_with Run name value runs = run_with name value
-command_with Rank name value runs = rank_with name value
-command_with Sample name value runs = sample_with name
+abbrev pub command_with : Mode → (Word → Option Word) → (Word → Option Word) → Bool → Bool → Option Command
+command_with Localise name value runs places = localise_with name value runs places
+command_with Check name value runs places = check_with name value
+command_with Run name value runs places = run_with name value
+command_with Rank name value runs places = rank_with name value
+command_with Sample name value runs places = sample_with name
 
 -- the file name in the place that has a name in the table
 abbrev pub file_at : List Word → List Word → Word → Option Word
@@ -141,7 +147,7 @@ value_in (file text ∷ parts) name = value_in parts name
 abbrev pub command_of_parts : Mode → List Part → Option Command
 command_of_parts mode parts =
     command_with mode (file_at (usage_of mode).files (files_in parts)) (value_in parts)
-    (stands (codes "runs") (options_in parts))
+    (stands (codes "runs") (options_in parts)) (stands (codes "places") (options_in parts))
 
 -- the command that parts are, by rules 4 to 6
 abbrev pub command_on : Mode → List Part → Option Command

@@ -18,7 +18,7 @@ abbrev pub usage_of : Mode → Usage
 usage_of Localise = record {
   valued = codes "bound" ∷ codes "depth" ∷ codes "weights" ∷ codes "conflicts" ∷ codes "sets"
       ∷ codes "cert" ∷ codes "restart" ∷ [];
-  plain = codes "runs" ∷ [];
+  plain = codes "runs" ∷ codes "places" ∷ [];
   files = codes "PROGRAM" ∷ codes "INPUT" ∷ [];
 }
 usage_of Check = record {

@@ -40,7 +40,7 @@ impl<'a> Text<'a> {
 /// default.
 #[derive(Drop)]
 pub enum Command<'a> {
-    /// Find the least sets of statements whose change could repair the run.
+    /// Find the least sets of statements, or of single executions, whose change could repair the run.
     Localise {
         /// The file of the program.
         program: Text<'a>,
@@ -58,6 +58,8 @@ pub enum Command<'a> {
         cert: Option<Text<'a>>,
         /// Whether a run is shown for each set.
         runs: bool,
+        /// Whether single executions are suspects, and not whole statements. Then no certificate is written.
+        places: bool,
         /// Whether the search restarts steadily, and not by Luby's sequence.
         steady: bool,
     },

@@ -35,7 +35,7 @@ static RANK_VALUED: [&str; 6] = ["bound", "depth", "weights", "conflicts", "sets
 
 static RUN_VALUED: [&str; 2] = ["bound", "depth"];
 
-static LOCALISE_PLAIN: [&str; 1] = ["runs"];
+static LOCALISE_PLAIN: [&str; 2] = ["runs", "places"];
 
 static RUN_FILES: [&str; 2] = ["PROGRAM", "INPUT"];
 

@@ -3,7 +3,7 @@
 ghost use Rattle.std.specs.Prelude.{◌≡◌, [], false, map, codes, IfOk};
 ghost use Rattle.clap.specs.Words.{app_of, first_value, found_of, rule_of};
 ghost use Rattle.ba_commands.specs.Modes.{usage_of};
-ghost use Rattle.ba_commands.specs.Commands.{bounds_with, check_with, command_with, localise_with, number_of, number_or, rank_with, run_with, sample_with, steady_in};
+ghost use Rattle.ba_commands.specs.Commands.{bounds_with, check_with, command_with, localise_with, may_be_certified, number_of, number_or, rank_with, run_with, sample_with, steady_in};
 ghost use Rattle.ba_commands.specs.Parsing.{IsParsedBy, app_for, bare_app, refuses, rule_for, with_rules};
 
 use crate::commands::{Command, Text};
@@ -178,10 +178,17 @@ fn is_steady(matches: &ArgMatches<'_>) -> Option<bool>
     }
 }
 
-fn localise<'a>(matches: &ArgMatches<'a>, runs: bool) -> Option<Command<'a>>
+/// Whether `--cert` may stand here: it doesn't beside `--places`, for which no certificate is written.
+fn may_be_certified(places: bool, cert: &Option<Text<'_>>) -> bool
+    ensures { result ≡ may_be_certified places cert.now }
+{
+    !(places && cert.is_some())
+}
+
+fn localise<'a>(matches: &ArgMatches<'a>, runs: bool, places: bool) -> Option<Command<'a>>
     ensures { result
         ≡ localise_with (first_value (found_of matches.now))
-        (first_value (found_of matches.now)) runs }
+        (first_value (found_of matches.now)) runs places }
 {
     let program = text_of(matches, "PROGRAM")?;
     let input = text_of(matches, "INPUT")?;
@@ -189,6 +196,10 @@ fn localise<'a>(matches: &ArgMatches<'a>, runs: bool) -> Option<Command<'a>>
     let conflicts = number_or(matches, "conflicts", 200_000, 1, 1_000_000)?;
     let sets = number_or(matches, "sets", 1000, 1, 10_000)?;
     let steady = is_steady(matches)?;
+    let cert = text_of(matches, "cert");
+    if !may_be_certified(places, &cert) {
+        return None;
+    }
     Some(Command::Localise {
         program,
         input,
@@ -196,8 +207,9 @@ fn localise<'a>(matches: &ArgMatches<'a>, runs: bool) -> Option<Command<'a>>
         weights: text_of(matches, "weights"),
         conflicts: u64::from(conflicts),
         sets,
-        cert: text_of(matches, "cert"),
+        cert,
         runs,
+        places,
         steady,
     })
 }
@@ -267,13 +279,18 @@ fn sample<'a>(matches: &ArgMatches<'a>) -> Option<Command<'a>>
 
 /// The command that the matches of a mode are, if their numbers are in their ranges and what has to be there
 /// is there.
-pub fn command_in<'a>(mode: Mode, matches: &ArgMatches<'a>, runs: bool) -> Option<Command<'a>>
+pub fn command_in<'a>(
+    mode: Mode,
+    matches: &ArgMatches<'a>,
+    runs: bool,
+    places: bool,
+) -> Option<Command<'a>>
     ensures { result
         ≡ command_with mode (first_value (found_of matches.now))
-        (first_value (found_of matches.now)) runs }
+        (first_value (found_of matches.now)) runs places }
 {
     match mode {
-        Mode::Localise => localise(matches, runs),
+        Mode::Localise => localise(matches, runs, places),
         Mode::Check => check(matches),
         Mode::Run => run(matches),
         Mode::Rank => rank(matches),

@@ -115,7 +115,8 @@ fn are_readable(mode: Mode, words: &[&str]) -> bool
 /// Reads the words that the program is called with, without its own name, as a command:
 ///
 /// - `localise PROGRAM INPUT --bound B` and, where wanted, `--depth D`, `--weights F`, `--conflicts N`,
-///   `--sets N`, `--cert F`, `--runs`, `--restart luby` or `--restart steady`;
+///   `--sets N`, `--cert F`, `--runs`, `--places`, `--restart luby` or `--restart steady`, but not both `--cert F`
+///   and `--places`;
 /// - `check PROGRAM INPUT CERT --bound B` and, where wanted, `--depth D`, `--weights F`, `--conflicts N`,
 ///   `--sets N`;
 /// - `run PROGRAM INPUT --bound B` and, where wanted, `--depth D`;
@@ -144,7 +145,8 @@ pub fn read_words<'a>(alloc: Global, words: &'a [&str]) -> Result<Command<'a>, W
     match matches_in(alloc, mode, words) {
         Ok(matches) => {
             let runs = matches.get_flag("runs");
-            command_in(mode, &matches, runs).ok_or(WordsError::Bad)
+            let places = matches.get_flag("places");
+            command_in(mode, &matches, runs, places).ok_or(WordsError::Bad)
         }
         Err(error) => Err(error),
     }

@@ -2,3 +2,6 @@ pub mod Spreading
 pub mod Members
 pub mod Relaxing
 pub mod Composing
+pub mod PlaceRelaxing
+pub mod Enough
+pub mod PlaceComposing

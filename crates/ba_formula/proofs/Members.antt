@@ -12,7 +12,7 @@ use Rattle.ba_encode.specs.Groups.{statements_from}
 use Rattle.ba_encode.specs.Softs.{softs_from, softs_of}
 use Rattle.ba_encode.specs.declared.encoded.Group.{Group}
 use Rattle.ba_encode.specs.declared.grouping.Numbered.{Numbered}
-use Rattle.ba_formula.proofs.Spreading.{first_or_later, later, spread}
+use Rattle.ba_formula.proofs.Spreading.{HaveWeights, first_or_later, later, spread, without-selectors}
 use Rattle.ba_lits.specs.Formulas.{Cnf}
 use Rattle.ba_lits.specs.Literals.{Literal}
 use Rattle.ba_lits.specs.Satisfaction.{Assignment, Soft, lit_true}
@@ -89,7 +89,7 @@ abbrev GivesUp : ℕ → WeightList → List Group → List Soft → Type 0
 GivesUp k w gs ss = AreNumbered k gs × ((j : ℕ) (v : Assignment) → k ≡ suc j
     → AreGivenUp v gs (is_in (false_groups_from j v ss)))
 
-gives-up : (k : ℕ) (w : WeightList) (gs : List Group) → map without_selector gs ≡ statements_from k w
+gives-up : (k : ℕ) (w : WeightList) (gs : List Group) → HaveWeights k w gs
     → list_all is_weight w ≡ true → GivesUp k w gs (softs_from k gs)
 gives-up = spread GivesUp
     (λ k. ((λ g at. absurd (no-group g at)), (λ j v is g at. absurd (no-group g at))))
@@ -123,11 +123,11 @@ gives-up = spread GivesUp
         (false_groups_from (suc j) v ss)
         (omega (arith, is, above))))
 
-pub given-up : (w : WeightList) (gs : List Group) → map without_selector gs ≡ statements_from 1 w
+pub given-up : (w : WeightList) (gs : List Group) → HaveWeights 1 w gs
     → list_all is_weight w ≡ true → (v : Assignment) → AreGivenUp v gs (is_in (false_groups v (softs_of gs)))
 given-up w gs is ok v = (gives-up 1 w gs is ok).1 0 v refl
 
--- A SET GIVEN UP: the false groups are the statements of the set that have a weight
+-- A SET GIVEN UP: the false groups are the numbers of the set that have a weight
 abbrev taken : Option ℕ → Bool
 taken None = false
 taken (Some x) = true
@@ -140,7 +140,7 @@ abbrev AreMembers : ℕ → WeightList → List Group → List Soft → Type 0
 AreMembers k w gs ss = (j : ℕ) (v : Assignment) (set : ℕ → Bool) → k ≡ suc j → AreGivenUp v gs set
     → false_groups_from j v ss ≡ members k w set
 
-are-members : (k : ℕ) (w : WeightList) (gs : List Group) → map without_selector gs ≡ statements_from k w
+are-members : (k : ℕ) (w : WeightList) (gs : List Group) → HaveWeights k w gs
     → list_all is_weight w ≡ true → AreMembers k w gs (softs_from k gs)
 unfolding members
 are-members = spread AreMembers
@@ -274,7 +274,7 @@ lies-in w low (n ∷ ns) are =
     positive m more = grind (arith, nat_tests)
 
 -- where exactly the groups of a relaxable set are given up, it is the set of the false ones
-pub set-given-up : (w : WeightList) (gs : List Group) → map without_selector gs ≡ statements_from 1 w
+pub set-given-up : (w : WeightList) (gs : List Group) → HaveWeights 1 w gs
     → list_all is_weight w ≡ true → (v : Assignment) (set : List ℕ) → IsRelaxableSet w set →
     AreGivenUp v gs (is_in set)
     → false_groups v (softs_of gs) ≡ set
@@ -286,7 +286,7 @@ set-given-up w gs is ok v set are up =
 abbrev Weighs : ℕ → WeightList → List Group → List Soft → Type 0
 Weighs k w gs ss = (i : ℕ) → entry_of (slice_get w i) ≡ weight_if (blocks.entry_weight (slice_get ss i))
 
-weighs-at : (k : ℕ) (w : WeightList) (gs : List Group) → map without_selector gs ≡ statements_from k w
+weighs-at : (k : ℕ) (w : WeightList) (gs : List Group) → HaveWeights k w gs
     → list_all is_weight w ≡ true → Weighs k w gs (softs_from k gs)
 weighs-at = spread Weighs
     (λ k i. nothing i)
@@ -327,7 +327,7 @@ weighs-at = spread Weighs
     weighed w g ss weighs so zero = some-weight g.weight weighs
     weighed w g ss weighs so (suc i) = so i
 
-pub weighs : (w : WeightList) (gs : List Group) → map without_selector gs ≡ statements_from 1 w
+pub weighs : (w : WeightList) (gs : List Group) → HaveWeights 1 w gs
     → list_all is_weight w ≡ true → (n : ℕ) → weight_at w n ≡ weight_if (blocks.weight_at (softs_of gs) n)
 weighs w gs is ok zero = refl
 weighs w gs is ok (suc n) =
@@ -387,7 +387,7 @@ shown : (g : Group) (ss : List Soft) → 1 ≤ g.weight
 shown g ss weighs = ap (λ t. cond t ((g.selector, g.weight) ∷ present ss) (present ss))
     (weighty g.weight weighs)
 
-are-of : (k : ℕ) (w : WeightList) (gs : List Group) → map without_selector gs ≡ statements_from k w
+are-of : (k : ℕ) (w : WeightList) (gs : List Group) → HaveWeights k w gs
     → list_all is_weight w ≡ true → AreOf k w gs (softs_from k gs)
 are-of = spread AreOf
     (λ k. ((λ g at. absurd (no-group g at)), tt, (λ apart. tt)))
@@ -435,7 +435,7 @@ all-among formula gs (s ∷ ss) are all =
     All-cons (IsAmong formula.variables) s ss (omega (arith, same, some), omega (arith, same, few))
     (all-among formula gs ss are all.1)
 
-pub are-selectors : (w : WeightList) (gs : List Group) → map without_selector gs ≡ statements_from 1 w
+pub are-selectors : (w : WeightList) (gs : List Group) → HaveWeights 1 w gs
     → list_all is_weight w ≡ true → (formula : Cnf) → encoding.AreSelectors formula gs
     → AreSelectors formula.variables (softs_of gs)
 are-selectors w gs is ok formula are =
@@ -446,7 +446,7 @@ are-selectors w gs is ok formula are =
       differ = of.2 are.apart;
     }
 
--- THE FALSE GROUPS are statements that have a weight
+-- THE FALSE GROUPS are numbers that have a weight
 
 part-behind : (whole : WeightList) (j : ℕ) (entry : Option ℕ) (w : WeightList)
     → ((i : ℕ) → slice_get (entry ∷ w) i ≡ slice_get whole (j + i)) → (i : ℕ) →
@@ -485,7 +485,7 @@ members-relaxable whole j low (Some x ∷ w) set high part =
     (members-relaxable whole (j + 1) low w set (omega (arith, high)) tail)
     (members-relaxable whole (j + 1) (j + 1) w set (omega arith) tail)
 
-pub false-relaxable : (w : WeightList) (gs : List Group) → map without_selector gs ≡ statements_from 1 w
+pub false-relaxable : (w : WeightList) (gs : List Group) → HaveWeights 1 w gs
     → list_all is_weight w ≡ true → (v : Assignment) → IsRelaxableSet w (false_groups v (softs_of gs))
 false-relaxable w gs is ok v =
     subst (IsRelaxableSet w) (sym (are-members 1 w gs is ok 0 v (is_in (false_groups v (softs_of gs))) refl
@@ -494,11 +494,6 @@ false-relaxable w gs is ok v =
     (let same : i ≡ 0 + i = omega arith in same)))
 
 -- THE STATEMENTS of groups are those of their numbers
-without-selectors : (f : Numbered → StmtId) (gs : List Group)
-    → map (λ (g : Group). f (without_selector g)) gs ≡ map f (map without_selector gs)
-without-selectors f [] = refl
-without-selectors f (g ∷ gs) = ap (λ ss. f (without_selector g) ∷ ss) (without-selectors f gs)
-
 abbrev own_statement : Numbered → StmtId
 own_statement n = n.statement
 

@@ -40,15 +40,17 @@ no-weight : {A : Type 0} → (o : Option A) → IsSome o → o ≡ None → ⊥
 no-weight None some none = cc
 no-weight (Some a) some none = cc
 
+-- a statement that has a weight is no assert
+pub not-assert : (p : Program) (w : WeightList) → AreWeightsOf p w → (stmt : StmtId)
+    → IsSome (weight_at w stmt.0) → not (is_assert p stmt) ≡ true
+not-assert p w are_weights stmt some = by_case (is_assert p stmt) refl where
+  by_case : (t : Bool) → is_assert p stmt ≡ t → not (is_assert p stmt) ≡ true
+  by_case true is = absurd (no-weight (weight_at w stmt.0) some (are_weights.no_assert stmt.0 is))
+  by_case false is = ap not is
+
 -- an execution may be relaxed in the program exactly where it may in the list
 module _ (p : Program) (weights : Weights) (are_weights : AreWeightsOf p weights.of) (set : List ℕ)
     (relaxable : IsRelaxableSet weights.of set) where
-  not-assert : (stmt : StmtId) → IsSome (weight_at weights.of stmt.0) → not (is_assert p stmt) ≡ true
-  not-assert stmt some = by_case (is_assert p stmt) refl where
-    by_case : (t : Bool) → is_assert p stmt ≡ t → not (is_assert p stmt) ≡ true
-    by_case true is = absurd (no-weight (weight_at weights.of stmt.0) some (are_weights.no_assert stmt.0 is))
-    by_case false is = ap not is
-
   at-statement : (path : List Step) (stmt : StmtId)
       → relaxes_in (ByStatement weights) (is_in set) path stmt
       ≡ admits p (Statements (map stmt_of set)) path stmt
@@ -60,7 +62,8 @@ module _ (p : Program) (weights : Weights) (are_weights : AreWeightsOf p weights
         let some : IsSome (weight_at weights.of stmt.0) = has-weight weights.of 0 set stmt.0 relaxable is in
         ap (λ t. t && is_some (weight_at weights.of stmt.0)) is
         ∙ some-true (weight_at weights.of stmt.0) some
-        ∙ sym (ap (λ t. t && not (is_assert p stmt)) (listed set stmt.0 ∙ is) ∙ not-assert stmt some)
+        ∙ sym (ap (λ t. t && not (is_assert p stmt)) (listed set stmt.0 ∙ is)
+        ∙ not-assert p weights.of are_weights stmt some)
     by_case false is =
         ap (λ t. t && is_some (weight_at weights.of stmt.0)) is
         ∙ sym (ap (λ t. t && not (is_assert p stmt)) (listed set stmt.0 ∙ is))

@@ -4,6 +4,8 @@
 //! good run, and each good run a model, follows from what the four steps promise.
 #![tactic(auto)]
 
+mod by_place;
 mod whole;
 
+pub use by_place::{PlaceFormula, place_formula_of};
 pub use whole::formula_of;

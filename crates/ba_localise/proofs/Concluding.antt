@@ -1,5 +1,5 @@
 -- What steps over a faithful encoding derive holds of the program.
-use Rattle.std.proofs.Common.{inl, inr, ◌≡◌, ℕ, suc, zero, ◌+◌, ◌<◌, List, [], ◌∷◌, length, All, refl, sym, ◌∙◌, ap, subst, arith}
+use Rattle.std.proofs.Common.{◌≡◌, ℕ, suc, zero, ◌<◌, List, [], ◌∷◌, length, All, refl, sym, ◌∙◌, ap, subst, arith}
 use Rattle.std.specs.Prelude.{Contains, get_or}
 use Rattle.ba_derivations.proofs.VerdictLaws.{good_runs, located, no_repair, ordered, spent, too_many}
 use Rattle.ba_derivations.specs.Derivations as derived
@@ -113,19 +113,17 @@ module _ (weights : WeightList) (p : Problem) (faithful : IsFaithful p.formula p
   concluded Spent says = spent p steps says
 
 -- WHAT WAS HANDED ON shows the verdict
-pub finds : (weights : WeightList) (good same : Judge) (begun : Basis) (s last : State) (conflicts most : ℕ)
-    (old mid new : Told) (verdict : Verdict) → IsFaithful begun.formula begun.softs weights good → same ≡ good
+pub finds : (weights : WeightList) (good : Judge) (begun : Basis) (s last : State) (conflicts most : ℕ)
+    (old mid new : Told) (verdict : Verdict) → IsFaithful begun.formula begun.softs weights good
     → s ≡ first_state begun.formula begun.softs conflicts most → mid.over ≡ with_told begun old.over
     → mid.logs ≡ old.logs → new.over ≡ mid.over
-    → Enumerates (problem begun same s.budget s.most_sets) mid.logs verdict last new.logs
+    → Enumerates (problem begun good s.budget s.most_sets) mid.logs verdict last new.logs
     → Finds weights good conflicts most old new verdict
-finds weights good same begun s last conflicts most old mid new verdict faithful judges starts begins stay
-    over has =
+finds weights good begun s last conflicts most old mid new verdict faithful starts begins stay over has =
     let p : Problem = problem begun good conflicts most in
-    let is : problem begun same s.budget s.most_sets ≡ p =
-    ap (λ (g : Judge). problem begun g s.budget s.most_sets) judges
-    ∙ (ap (λ (n : ℕ). problem begun good n s.most_sets) (ap (λ (t : State). t.budget) starts)
-    ∙ ap (problem begun good conflicts) (ap (λ (t : State). t.most_sets) starts)) in
+    let is : problem begun good s.budget s.most_sets ≡ p =
+    ap (λ (n : ℕ). problem begun good n s.most_sets) (ap (λ (t : State). t.budget) starts)
+    ∙ ap (problem begun good conflicts) (ap (λ (t : State). t.most_sets) starts) in
     let put : Enumerates p mid.logs verdict last new.logs =
     subst (λ (q : Problem). Enumerates q mid.logs verdict last new.logs) is has in
     record {
@@ -140,17 +138,15 @@ finds weights good same begun s last conflicts most old mid new verdict faithful
     }
 
 -- and what is left of it, whatever was answered
-pub left : (weights : WeightList) (good same : Judge) (begun : Basis) (s last : State) (conflicts most : ℕ)
-    (old mid new : Told) → IsFaithful begun.formula begun.softs weights good → same ≡ good
+pub left : (weights : WeightList) (good : Judge) (begun : Basis) (s last : State) (conflicts most : ℕ)
+    (old mid new : Told) → IsFaithful begun.formula begun.softs weights good
     → s ≡ first_state begun.formula begun.softs conflicts most → mid.over ≡ with_told begun old.over
-    → mid.logs ≡ old.logs → new.over ≡ mid.over → LeavesBetween same s mid.logs last new.logs
+    → mid.logs ≡ old.logs → new.over ≡ mid.over → LeavesBetween good s mid.logs last new.logs
     → LeavesDerivation weights good conflicts most old new
-left weights good same begun s last conflicts most old mid new faithful judges starts begins stay over has =
-    let judged : LeavesBetween good s mid.logs last new.logs =
-    subst (λ (g : Judge). LeavesBetween g s mid.logs last new.logs) judges has in
+left weights good begun s last conflicts most old mid new faithful starts begins stay over has =
     let started : LeavesBetween good (first_state begun.formula begun.softs conflicts most) mid.logs last
     new.logs =
-    subst (λ (t : State). LeavesBetween good t mid.logs last new.logs) starts judged in
+    subst (λ (t : State). LeavesBetween good t mid.logs last new.logs) starts has in
     leaves_steps begun last faithful (over ∙ begins)
     (subst (λ (logs : Logs). LeavesBetween good (first_state begun.formula begun.softs conflicts most) logs
     last

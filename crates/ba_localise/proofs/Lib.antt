@@ -1,3 +1,4 @@
 pub mod Concluding
 pub mod OneVerdict
 pub mod Counting
+pub mod PlaceVerdicts

@@ -1,3 +1,4 @@
 pub mod Verdicts
 pub mod Starting
 pub mod Lending
+pub mod Places

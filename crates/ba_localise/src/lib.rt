@@ -6,5 +6,7 @@
 
 mod lent;
 mod search;
+mod verdict;
 
-pub use search::localise;
+pub use search::{localise, localise_places};
+pub use verdict::PlaceVerdict;

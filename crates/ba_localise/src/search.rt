@@ -5,22 +5,27 @@ ghost use Rattle.ba_encode.specs.Softs.{softs_of};
 ghost use Rattle.ba_enum.specs.Enumerating.{Enumerates};
 ghost use Rattle.ba_enum.specs.Leading.{LeavesBetween};
 ghost use Rattle.ba_enum.specs.Problems.{IsReadable, problem_in};
-ghost use Rattle.ba_localise.specs.Starting.{IsStarted};
+ghost use Rattle.ba_localise.specs.Places.{FindsPlaces, LeavesPlaces};
+ghost use Rattle.ba_localise.specs.Starting.{IsEncodedBy, IsStarted};
 ghost use Rattle.ba_localise.specs.Verdicts.{Finds, LeavesDerivation};
 ghost use Rattle.ba_search.specs.Searching.{IsCaused};
 ghost use Rattle.ba_steps.specs.Sinks.{Outlasts};
-ghost use Rattle.ba_checker.specs.Facts.{IsStart};
-ghost use Rattle.ba_tree.specs.Least.{AreWeightsOf, judge_of};
+ghost use Rattle.ba_checker.specs.Facts.{AreSelectors, IsStart};
+ghost use Rattle.ba_places.specs.Least.{place_judge_of};
+ghost use Rattle.ba_tree.specs.Least.{AreWeightsOf, WeightList, judge_of};
 ghost use Rattle.ba_tree.specs.Run.{are_bounds, fits, plain_run};
 ghost use Rattle.ba_tree.specs.declared.run.Outcome.{Outcome};
 
 use crate::lent::Lent;
+use crate::verdict::PlaceVerdict;
 use ba_checker::{Checked, Checker};
 use ba_derivations::Verdict;
 use ba_encode::{Encoded, softs_of};
 use ba_enum::all_sets;
-use ba_formula::formula_of;
+use ba_formula::{PlaceFormula, formula_of, place_formula_of};
 use ba_judge::ProgramJudge;
+use ba_places::PlaceJudge;
+use ba_places::laws::least_by_number;
 use ba_search::{Search, SearchError, SearchRules};
 use ba_steps::{RunJudge, StepSink};
 use ba_tree::run::{Bounds, Input, Weights};
@@ -61,12 +66,84 @@ pub fn localise<D: StepSink + Drop, R: SearchRules + Drop>(
     ensures outlasts { Outlasts (D.told steps.old) (D.told steps.new) }
 {
     let encoded = formula_of(alloc, program, input, bounds, weights)?;
-    let softs = softs_of(alloc, &encoded)?;
+    let judge = ProgramJudge::new(alloc, program, input, bounds);
+    search_for(alloc, &encoded, judge, conflicts, sets, rules, steps)
+}
+
+/// The least sets of single executions that could repair a run that is not good as written, each with the choices of such
+/// a run. The sets are of numbers in a list of places, which is given too.
+///
+/// What is promised, handed to `steps` and left there is as for [`localise`]. In place of statements there are places of
+/// statements that have a weight. Each execution is relaxed by itself, and weighs 1.
+///
+/// `SinkFailed` comes only where the faults of `steps` rose; `Memory` for want of memory.
+pub fn localise_places<D: StepSink + Drop, R: SearchRules + Drop>(
+    alloc: Global,
+    program: &Program,
+    input: &Input,
+    bounds: Bounds,
+    weights: &Weights,
+    conflicts: u64,
+    sets: u32,
+    rules: R,
+    steps: &mut D,
+) -> Result<PlaceVerdict, SearchError>
+    requires fits { fits program.now input.now ≡ true }
+    requires bounds { are_bounds bounds ≡ true }
+    requires weights { AreWeightsOf program.now weights.now.of }
+    requires failing { plain_run program.now input.now bounds ≢ Outcome.Done }
+    requires rules { R.are_rules rules }
+    ensures finds { IfOk result (FindsPlaces weights.now.of
+        (place_judge_of program.now input.now bounds)
+        conflicts sets (D.told steps.old) (D.told steps.new)) }
+    ensures leaves { LeavesPlaces weights.now.of (place_judge_of program.now input.now bounds)
+        conflicts sets (D.told steps.old) (D.told steps.new) }
+    ensures cause { IsCaused result (D.told steps.old) (D.told steps.new) }
+    ensures outlasts { Outlasts (D.told steps.old) (D.told steps.new) }
+{
+    let PlaceFormula { places, encoded } = place_formula_of(
+        alloc, program, input, bounds, weights,
+    )?;
+    let judge = PlaceJudge::new(alloc, program, input, bounds, places.as_slice());
+    least_by_number();
+    let verdict = search_for(alloc, &encoded, judge, conflicts, sets, rules, steps)?;
+    Ok(PlaceVerdict { places, verdict })
+}
+
+/// The least sets of groups of a formula that encodes faithfully which runs are good.
+///
+/// `SinkFailed` comes only where the faults of `steps` rose; `Memory` for want of memory.
+fn search_for<D, J, R>(
+    alloc: Global,
+    encoded: &Encoded,
+    judge: J,
+    conflicts: u64,
+    sets: u32,
+    rules: R,
+    steps: &mut D,
+) -> Result<Verdict, SearchError>
+where
+    D: StepSink + Drop,
+    J: RunJudge + Drop,
+    R: SearchRules + Drop,
+    requires clauses { IsStart encoded.now.formula (softs_of encoded.now.groups) }
+    requires selectors { AreSelectors encoded.now.formula.variables (softs_of encoded.now.groups) }
+    requires readable { IsReadable encoded.now (J.accepts judge) }
+    requires rules { R.are_rules rules }
+    ensures finds { (weights : WeightList) → IsEncodedBy weights (J.accepts judge) encoded.now
+        → IfOk result (Finds weights (J.accepts judge)
+        conflicts sets (D.told steps.old) (D.told steps.new)) }
+    ensures leaves { (weights : WeightList) → IsEncodedBy weights (J.accepts judge) encoded.now
+        → LeavesDerivation weights (J.accepts judge)
+        conflicts sets (D.told steps.old) (D.told steps.new) }
+    ensures cause { IsCaused result (D.told steps.old) (D.told steps.new) }
+    ensures outlasts { Outlasts (D.told steps.old) (D.told steps.new) }
+{
+    let softs = softs_of(alloc, encoded)?;
     let checker = Checker::new(alloc, encoded.formula(), softs.as_slice(), conflicts, sets)?;
     let mut search = Search::by_rules(alloc, encoded.formula(), rules)?;
     steps.begin(encoded.formula(), softs.as_slice())?;
-    let judge = ProgramJudge::new(alloc, program, input, bounds);
-    let (answer, _) = all_sets_into(alloc, &encoded, sets, &mut search, checker, judge, steps);
+    let (answer, _) = all_sets_into(alloc, encoded, sets, &mut search, checker, judge, steps);
     answer
 }
 

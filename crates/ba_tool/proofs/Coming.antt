@@ -28,6 +28,9 @@ use Rattle.mode_localise.specs.Jobs as localise
 use Rattle.mode_localise.specs.Jobs.{sample_job, sample_texts}
 use Rattle.mode_localise.specs.Leaving as leaving
 use Rattle.mode_localise.specs.declared.jobs.LocaliseJob.{LocaliseJob}
+use Rattle.mode_places.specs.Jobs as places
+use Rattle.mode_places.specs.Searches as place_searches
+use Rattle.mode_places.specs.declared.jobs.PlacesJob.{PlacesJob}
 use Rattle.mode_rank.specs.Jobs as rank
 use Rattle.mode_rank.specs.Searches as searches
 use Rattle.mode_rank.specs.declared.jobs.RankJob.{RankJob}
@@ -176,6 +179,25 @@ run_ends j x before after t result are reads ok short = record {
     apart : result ≡ Err error.SinkFailed → ⊥
     apart failed = let memory : error.SinkFailed ≡ error.Memory =
         subst (λ r. IfErr r (λ e. e ≡ error.Memory)) failed short in cc
+
+pub places_ends : (j : PlacesJob) (x : Texts) (before after : Outside) (t u : Told)
+    (result : Result Answer SearchError) → AreRead (places.files_of j) (parts_of x) before after →
+    OnlyReads before after → place_searches.TextsEnd j x t u result →
+    RequestEnds (request.Places j) before after t u result
+places_ends j x before after t u result are reads ends = record {
+  answer = IfOk-weaker result _ (Comes (request.Places j) before after t u)
+      (λ a k. record {
+        read = after;
+        handed = k.handed;
+        comes = by_texts x after are (refl, k.is);
+        reads = reads;
+        hands = k.hands;
+        certifies = refl;
+      }) ends.answer;
+  left = behind x after are (refl, ends.left);
+  cause = ends.cause;
+  outlasts = ends.outlasts;
+}
 
 pub rank_ends : (j : RankJob) (x : Texts) (before after : Outside) (t u : Told)
     (result : Result Answer SearchError) → AreRead (rank.files_of j) (parts_of x) before after →

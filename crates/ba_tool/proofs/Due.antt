@@ -29,6 +29,8 @@ use Rattle.mode_localise.proofs.Rows.{answer_of_search, one_answer}
 use Rattle.mode_localise.proofs.SampleAnswers.{sample_answered}
 use Rattle.mode_localise.specs.Answers as localise
 use Rattle.mode_localise.specs.Jobs.{sample_job, sample_texts}
+use Rattle.mode_places.proofs.Rows.{one_place_answer, answer_of_search as place_answer_of_search}
+use Rattle.mode_places.specs.Answers as places
 use Rattle.mode_rank.proofs.OneRanking.{IsOfRanking, ranking_of_search, one_answer as one_ranking}
 use Rattle.mode_rank.specs.Answers as rank
 use Rattle.mode_run.proofs.Ending.{run_of_meaning}
@@ -260,6 +262,11 @@ request_due c (request.Run j) due a result mid handed is same comes e =
     (λ x read holds once. once_end x.program (run_answer j.bounds x) a due
     (one_at_once x.program (run_answer j.bounds x) (run_of_meaning j.bounds x) a due holds.1.0 once)) is comes
     e
+request_due c (request.Places j) due a result mid handed is same comes e =
+    due_end c result (files_in (request.Places j)) mid same (Unaided (places.IsAnswer j))
+    (λ x a. (others : List Derivation) × places.IsAnswer j x others a) due a handed
+    (λ x read holds other. agree_ends _ a due (one_place_answer j x handed other.0 a due holds.1 other.1)) is
+    comes e
 request_due c (request.Rank j) due a result mid handed is same comes e =
     due_end c result (files_in (request.Rank j)) mid same (Unaided (rank.IsAnswer j))
     (λ x a. (others : List Derivation) × rank.IsAnswer j x others a) due a handed
@@ -286,6 +293,11 @@ request_failing c (request.Localise j) a result mid handed may t same comes e =
     t.texts handed a t.told
     (λ read only holds. ends_as c IsEndOfSearch result (status_of a) (ends_search a
     (answer_of_search j t.texts t.program t.spelled t.undecided handed a holds.1)) e) comes e
+request_failing c (request.Places j) a result mid handed may t same comes e =
+    told_end c result (files_in (request.Places j)) mid same IsEndOfSearch (Unaided (places.IsAnswer j))
+    t.texts handed a t.told
+    (λ read only holds. ends_as c IsEndOfSearch result (status_of a) (ends_search a
+    (place_answer_of_search j t.texts t.program t.spelled t.undecided handed a holds.1)) e) comes e
 request_failing c (request.Rank j) a result mid handed may t same comes e =
     told_end c result (files_in (request.Rank j)) mid same IsEndOfRanking (Unaided (rank.IsAnswer j))
     t.texts handed a t.told
@@ -302,6 +314,7 @@ request_checking c request.Refused a result mid handed name told never held same
 request_checking c (request.Sample n) a result mid handed name told never held same comes e = absurd never
 request_checking c (request.Localise j) a result mid handed name told never held same comes e = absurd never
 request_checking c (request.Run j) a result mid handed name told never held same comes e = absurd never
+request_checking c (request.Places j) a result mid handed name told never held same comes e = absurd never
 request_checking c (request.Rank j) a result mid handed name told never held same comes e = absurd never
 request_checking c (request.Check j) a result mid handed name told (is, t) held same comes e =
     told_end c result (files_in (request.Check j)) mid same (IsEndOfCheck told) (check.IsAnswer j) t.texts

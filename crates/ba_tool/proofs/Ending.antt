@@ -115,6 +115,7 @@ comes_begin request.Refused before read after handed a comes same = same
 comes_begin (request.Sample additions) before read after handed a comes same = same
 comes_begin (request.Check j) before read after handed a comes same = same
 comes_begin (request.Run j) before read after handed a comes same = same
+comes_begin (request.Places j) before read after handed a comes same = same
 comes_begin (request.Rank j) before read after handed a comes same = same
 
 -- WHAT A REQUEST PASSED: it read, and may have begun the certificate, if one is named
@@ -146,6 +147,8 @@ behind_passes (request.Localise j) x before read after t u reads s =
     record { read = read; reads = reads; may = stops_begin j x read after t u s }
 behind_passes (request.Check j) x before read after t u reads s =
     only_read before after (only_reads_on before read after reads (check_reads j x read after t u s))
+behind_passes (request.Places j) x before read after t u reads s =
+    record { read = read; reads = reads; may = s.0 }
 behind_passes (request.Rank j) x before read after t u reads s =
     record { read = read; reads = reads; may = s.0 }
 behind_passes request.Refused x before read after t u reads never = absurd never

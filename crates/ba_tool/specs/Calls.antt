@@ -31,6 +31,8 @@ use Rattle.mode_localise.specs.Answers as localise
 use Rattle.mode_localise.specs.Certifying.{Certifies}
 use Rattle.mode_localise.specs.Jobs.{sample_job, sample_texts}
 use Rattle.mode_localise.specs.Leaving as leaving
+use Rattle.mode_places.specs.Answers as places
+use Rattle.mode_places.specs.Searches as place_searches
 use Rattle.mode_rank.specs.Answers as rank
 use Rattle.mode_rank.specs.Inputs.{rank_answer}
 use Rattle.mode_rank.specs.Searches as searches
@@ -83,6 +85,8 @@ RequestComesTo (request.Run j) before after handed a =
     FilesComeTo (files_in (request.Run j)) (Unaided (RunsTo j)) before after handed a
 RequestComesTo (request.Rank j) before after handed a =
     FilesComeTo (files_in (request.Rank j)) (Unaided (rank.IsAnswer j)) before after handed a
+RequestComesTo (request.Places j) before after handed a =
+    FilesComeTo (files_in (request.Places j)) (Unaided (places.IsAnswer j)) before after handed a
 
 -- WHAT A REQUEST COMES TO before anything is printed. By what is read it comes to an answer. The derivations of its
 -- searches were handed to the sink of steps, and only the certificate was written.
@@ -102,6 +106,7 @@ abbrev pub StopsBehind : Request → Texts → Outside → Outside → Told → 
 StopsBehind (request.Localise j) x read after t u = leaving.Stops j x read after t u
 StopsBehind (request.Check j) x read after t u = check.Stops j x read after t u
 StopsBehind (request.Rank j) x read after t u = (after ≡ read) × searches.Stops j x t u
+StopsBehind (request.Places j) x read after t u = (after ≡ read) × place_searches.Stops j x t u
 StopsBehind _ x read after t u = ⊥
 
 pub data Stops (r : Request) (before after : Outside) (t u : Told) : Type 0 where
@@ -177,7 +182,8 @@ Says c status.TooLarge = Answered c answer.TooLarge
 Says c status.BeyondBound = (at : At) × (line : Option ℕ) × Answered c (answer.BeyondBound at line)
 -- a derivation shows that there is no least set
 Says c status.NoRepair = Answered c answer.NoRepair
--- a derivation shows that there are more least sets than may be listed, and this is their weight
+-- a derivation shows that there are more least sets than may be listed, and this is their weight, or how
+-- many places each has
 Says c status.TooManySets =
     (weight most : ℕ) × (line : Option ℕ) × Answered c (answer.TooManySets weight most line)
 -- the steps that were handed to the sink spend the conflicts that are allowed
@@ -272,6 +278,8 @@ IsDue (request.Run j) before a = FilesAreDue (files_in (request.Run j))
     (λ x a. IsAtOnce x.program (run_answer j.bounds x) a) before a
 IsDue (request.Rank j) before a = FilesAreDue (files_in (request.Rank j))
     (λ x a. (handed : List Derivation) × rank.IsAnswer j x handed a) before a
+IsDue (request.Places j) before a = FilesAreDue (files_in (request.Places j))
+    (λ x a. (handed : List Derivation) × places.IsAnswer j x handed a) before a
 
 -- the world tells all files of a request, and each run of their program fails, so that least sets are searched for. A
 -- sample is searched whatever is told
@@ -280,6 +288,8 @@ abbrev pub TellsFailing : Request → Outside → Type 0
 TellsFailing (request.Localise j) before =
     TellsUndecided (files_in (request.Localise j)) (case_answer j.bounds) before
 TellsFailing (request.Rank j) before = TellsUndecided (files_in (request.Rank j)) (rank_answer j.bounds) before
+TellsFailing (request.Places j) before =
+    TellsUndecided (files_in (request.Places j)) (case_answer j.bounds) before
 TellsFailing (request.Sample additions) before = Unit {0}
 TellsFailing _ before = ⊥
 
@@ -287,6 +297,7 @@ TellsFailing _ before = ⊥
 abbrev pub IsEndOf : Request → Status → Type 0
 IsEndOf (request.Localise j) = IsEndOfSearch
 IsEndOf (request.Rank j) = IsEndOfRanking
+IsEndOf (request.Places j) = IsEndOfSearch
 IsEndOf (request.Sample additions) = IsEndOfSample
 IsEndOf _ = λ result. ⊥
 

@@ -12,6 +12,7 @@ use Rattle.ba_tree.specs.Run.{are_bounds}
 use Rattle.mode_check.specs.Jobs as check
 use Rattle.mode_localise.specs.Jobs as localise
 use Rattle.mode_localise.specs.declared.jobs.Telling.TheVariants as telling
+use Rattle.mode_places.specs.Jobs as places
 use Rattle.mode_rank.specs.Jobs as rank
 use Rattle.mode_run.specs.Runs as run
 use Rattle.ba_tool.specs.declared.requests.Request.{Request}
@@ -20,7 +21,7 @@ use Rattle.ba_tool.specs.declared.requests.Request.TheVariants as request
 -- what a command asks for, if words are one
 abbrev pub request_by : Option Command → Request
 request_by None = request.Refused
-request_by (Some (command.Localise program input bounds weights conflicts sets cert runs steady)) =
+request_by (Some (command.Localise program input bounds weights conflicts sets cert runs false steady)) =
     request.Localise (record {
       program = program;
       input = input;
@@ -30,6 +31,17 @@ request_by (Some (command.Localise program input bounds weights conflicts sets c
       sets = sets;
       cert = cert;
       telling = telling.Report runs;
+      steady = steady;
+    })
+request_by (Some (command.Localise program input bounds weights conflicts sets cert runs true steady)) =
+    request.Places (record {
+      program = program;
+      input = input;
+      weights = weights;
+      bounds = bounds;
+      conflicts = conflicts;
+      sets = sets;
+      runs = runs;
       steady = steady;
     })
 request_by (Some (command.Check program input cert bounds weights conflicts sets)) =
@@ -66,12 +78,14 @@ files_in (request.Localise j) = localise.files_of j
 files_in (request.Check j) = check.files_of j
 files_in (request.Run j) = run.files_of j
 files_in (request.Rank j) = rank.files_of j
+files_in (request.Places j) = places.files_of j
 files_in _ = []
 
 -- whether restarts come at a steady pace; else they follow Luby's sequence, as those of a sample do
 abbrev pub steady_of : Request → Bool
 steady_of (request.Localise j) = j.steady
 steady_of (request.Rank j) = j.steady
+steady_of (request.Places j) = j.steady
 steady_of _ = false
 
 -- the name of the certificate that is written, where one is asked for, and its settings
@@ -91,3 +105,4 @@ MayBeDone (request.Localise j) = localise.MayBeDone j
 MayBeDone (request.Check j) = are_bounds j.bounds ≡ true
 MayBeDone (request.Run j) = are_bounds j.bounds ≡ true
 MayBeDone (request.Rank j) = rank.MayBeDone j
+MayBeDone (request.Places j) = places.MayBeDone j

@@ -6,6 +6,7 @@ ghost use Rattle.ba_tool.specs.Requests.{request_by, request_of, steady_of};
 use ba_commands::{Command, WordsError, read_words};
 use mode_check::CheckJob;
 use mode_localise::{LocaliseJob, Telling};
+use mode_places::PlacesJob;
 use mode_rank::RankJob;
 use mode_run::RunJob;
 use std::alloc::{AllocError, Global};
@@ -19,6 +20,8 @@ pub enum Request<'a> {
     Sample(u32),
     /// They ask for the least sets of a program.
     Localise(LocaliseJob<'a>),
+    /// They ask for the least sets of places of a program.
+    Places(PlacesJob<'a>),
     /// They ask to judge a certificate.
     Check(CheckJob<'a>),
     /// They ask to run a program.
@@ -34,6 +37,7 @@ impl Request<'_> {
     {
         match self {
             Request::Localise(job) => job.steady,
+            Request::Places(job) => job.steady,
             Request::Rank(job) => job.steady,
             Request::Refused | Request::Sample(_) | Request::Check(_) | Request::Run(_) => false,
         }
@@ -52,8 +56,30 @@ fn request_by(command: Command) -> Request
             weights,
             conflicts,
             sets,
+            cert: _,
+            runs,
+            places: true,
+            steady,
+        } => Request::Places(PlacesJob {
+            program,
+            input,
+            weights,
+            bounds,
+            conflicts,
+            sets,
+            runs,
+            steady,
+        }),
+        Command::Localise {
+            program,
+            input,
+            bounds,
+            weights,
+            conflicts,
+            sets,
             cert,
             runs,
+            places: false,
             steady,
         } => Request::Localise(LocaliseJob {
             program,

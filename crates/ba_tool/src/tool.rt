@@ -8,6 +8,7 @@ ghost use Rattle.ba_steps.specs.Sinks.{Outlasts, Told};
 ghost use Rattle.ba_tree.specs.Run.{are_bounds};
 ghost use Rattle.ba_world.specs.World.{OnlyPrints, PrintsPrefix};
 ghost use Rattle.mode_localise.specs.Jobs.{MayBeDone as MayBeLocalised};
+ghost use Rattle.mode_places.specs.Jobs.{MayBeDone as MayBeLocalisedByPlace};
 ghost use Rattle.mode_rank.specs.Jobs.{MayBeDone as MayBeRanked};
 ghost use Rattle.ba_tool.specs.Calls.{EndsWhere, IsPrinted, IsShown, RequestEnds, Says, WritesOnly, asked_by, call, most_given};
 ghost use Rattle.ba_tool.specs.Requests.{MayBeDone, cert_of, steady_of};
@@ -23,6 +24,7 @@ use ba_steps::StepSink;
 use ba_world::{World, WorldError};
 use mode_check::{CheckJob, check_texts};
 use mode_localise::{LocaliseJob, localise_texts, sample_job, sample_texts};
+use mode_places::{PlacesJob, places_texts};
 use mode_rank::{RankJob, rank_texts};
 use mode_run::{RunJob, run_texts};
 use std::alloc::Global;
@@ -77,6 +79,34 @@ where
     let files = job.files();
     match Texts::read(alloc, world, files.as_slice()) {
         Ok(texts) => localise_texts(alloc, world, job, &texts, rules, steps),
+        Err(stop) => stop.answer(),
+    }
+}
+
+/// What the least sets of places of a program come to: its files are read whole, and then they are searched for.
+///
+/// `SinkFailed` comes only where the faults of `steps` rose; `Memory` for want of memory.
+fn places_answer<W, D, R>(
+    alloc: Global,
+    world: &mut W,
+    job: &PlacesJob,
+    rules: R,
+    steps: &mut D,
+) -> Result<Answer, SearchError>
+where
+    W: World,
+    D: StepSink + Drop,
+    R: SearchRules + Drop,
+    requires job { MayBeLocalisedByPlace job.now }
+    requires rules { R.are_rules rules }
+    ensures ends { RequestEnds (Request.Places job.now)
+        (W.outside world.old) (W.outside world.new) (D.told steps.old) (D.told steps.new) result }
+    ensures bounded { GivesAtMost (most_given (Request.Places job.now))
+        (W.outside world.old) (W.outside world.new) }
+{
+    let files = job.files();
+    match Texts::read(alloc, world, files.as_slice()) {
+        Ok(texts) => places_texts(alloc, job, &texts, rules, steps),
         Err(stop) => stop.answer(),
     }
 }
@@ -177,6 +207,7 @@ where
         Request::Refused => Ok(Answer::BadWords),
         Request::Sample(additions) => sample_answer(alloc, world, *additions, rules, steps),
         Request::Localise(job) => localise_answer(alloc, world, job, rules, steps),
+        Request::Places(job) => places_answer(alloc, world, job, rules, steps),
         Request::Check(job) => check_answer(alloc, world, job, steps),
         Request::Run(job) => run_answer(alloc, world, job),
         Request::Rank(job) => rank_answer(alloc, world, job, rules, steps),
@@ -211,7 +242,7 @@ fn finish<W: World>(alloc: Global, world: &mut W, answer: &Answer) -> Status
 /// Does what the words ask for, prints one text, and answers how the program then ends.
 ///
 /// - `localise`: reads a program and a failing input, and prints the sets of statements of least weight whose change
-///   could repair that run.
+///   could repair that run. With `--places` it prints those of single executions, of fewest members.
 /// - `check`: judges a certificate of such sets, and prints what it claims.
 /// - `run`: runs the program on the input, and prints how it fails.
 /// - `rank`: reads several inputs, and ranks the statements by how many of the runs their change could repair.

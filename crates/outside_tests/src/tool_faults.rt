@@ -18,6 +18,8 @@ const CERTIFIED: &[&str] = &["localise", "p.c", "in.txt", "--bound=1", "--cert=c
 
 const WEIGHED: &[&str] = &["localise", "p.c", "in.txt", "--bound=1", "--weights=w.txt"];
 
+const PLACED: &[&str] = &["localise", "p.c", "in.txt", "--bound=1", "--places"];
+
 const CHECKING: &[&str] = &["check", "p.c", "in.txt", "c", "--bound=1"];
 
 const RUNNING: &[&str] = &["run", "p.c", "in.txt", "--bound=1"];
@@ -121,7 +123,7 @@ fn sweep(rt: &impl Abort, alloc: Global, calls: &[&[&str]], held: &[u8]) {
 #[test]
 fn each_call_of_the_world_may_fail(rt: HostRuntime) {
     let alloc = rt.alloc();
-    sweep(&rt, alloc, &[CERTIFIED, WEIGHED], OLD);
+    sweep(&rt, alloc, &[CERTIFIED, WEIGHED, PLACED], OLD);
     let mut world = counted_world(&rt, alloc, OLD, &[]);
     end(alloc, CERTIFIED, &mut world, &mut NoSink);
     assert_eq!(rt; world.inside.printed(), BRANCHES_REPORT.as_bytes());
@@ -182,6 +184,18 @@ fn each_call_of_the_sink_may_fail(rt: HostRuntime) {
     end(alloc, CERTIFIED, &mut world, &mut sink);
     assert!(rt; sink.calls > 2);
     assert_sink_faults(&rt, alloc, &world, sink.calls);
+}
+
+#[test]
+fn each_call_of_the_sink_may_fail_over_places(rt: HostRuntime) {
+    let alloc = rt.alloc();
+    let mut world = counted_world(&rt, alloc, OLD, &[]);
+    let mut sink = FailingSink::new(u64::MAX);
+    assert_eq!(rt; end(alloc, PLACED, &mut world, &mut sink), Status::Ok);
+    assert!(rt; sink.calls > 2);
+    for number in 0..sink.calls {
+        assert_sink_fault(&rt, alloc, PLACED, number, OLD);
+    }
 }
 
 /// Asserts how a call over a program and an input ends, and what it prints.

@@ -1,7 +1,9 @@
 //! That the laws of answers can be called.
 
 use ba_cases::laws::{one_case_answer, undecided_runs_fail};
+use ba_places::laws::{least_by_number, least_places_are_unique};
 use mode_localise::laws::{answer_of_sample, one_answer};
+use mode_places::laws::one_place_answer;
 use mode_rank::laws::one_ranking;
 use mode_run::laws::one_run_answer;
 
@@ -12,5 +14,8 @@ fn laws_return(_rt: HostRuntime) {
     one_run_answer();
     one_answer();
     answer_of_sample();
+    least_places_are_unique();
+    least_by_number();
+    one_place_answer();
     one_ranking();
 }

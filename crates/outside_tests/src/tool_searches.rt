@@ -1,7 +1,7 @@
 //! Searches: what is handed to a sink, and certificates.
 
 use crate::support::calls::{end, world_of};
-use crate::support::programs::{BRANCHES, BRANCHES_REPORT, ONE_ASSIGNMENT};
+use crate::support::programs::{BRANCHES, BRANCHES_REPORT, ONE_ASSIGNMENT, TWICE, TWICE_REPORT};
 use ba_answers::status::Status;
 use ba_cert::{read_line, step_text};
 use ba_steps::{Basis, CertStep, ListSink, NoSink};
@@ -36,6 +36,27 @@ fn hands_on_the_steps_that_spend_the_conflicts(rt: HostRuntime) {
         .count();
     let ends = steps.steps().iter().filter(|step| is_spent(step)).count();
     assert_eq!(rt; conflicts, 1);
+    assert_eq!(rt; ends, 1);
+}
+
+#[test]
+fn hands_on_a_derivation_over_the_numbers_of_places(rt: HostRuntime) {
+    let alloc = rt.alloc();
+    let mut world = world_of(&rt, alloc, TWICE, "1", &[], 4096);
+    let mut steps = ListSink::new(alloc);
+    let words = ["localise", "p.c", "in.txt", "--bound=1", "--places"];
+    assert_eq!(rt; end(alloc, &words, &mut world, &mut steps), Status::Ok);
+    assert_eq!(rt; world.printed(), TWICE_REPORT.as_bytes());
+    // The places of the function's statement, of the assignment and of the last `return`.
+    match steps.over() {
+        [basis] => assert_eq!(rt; basis.softs.len(), 4),
+        _ => panic!(rt; "not one formula"),
+    }
+    let ends = steps
+        .steps()
+        .iter()
+        .filter(|step| matches!(step, CertStep::EndLocated { .. }))
+        .count();
     assert_eq!(rt; ends, 1);
 }
 

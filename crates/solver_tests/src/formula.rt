@@ -284,7 +284,7 @@ fn repairs(repairs: &[&[u32]], set: &[u32]) -> bool {
 }
 
 /// Whether a formula has a model whose false selectors are exactly those of a set of groups.
-fn has_repair(rt: &impl Abort, alloc: Global, encoded: &Encoded, set: &[u32]) -> bool {
+pub(crate) fn has_repair(rt: &impl Abort, alloc: Global, encoded: &Encoded, set: &[u32]) -> bool {
     let lits = exactly(rt, alloc, encoded, set);
     has_model(rt, alloc, encoded.formula(), lits.as_slice())
 }

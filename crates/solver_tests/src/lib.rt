@@ -35,6 +35,8 @@ mod muldiv_powers;
 #[cfg(test)]
 mod nodes;
 #[cfg(test)]
+mod places;
+#[cfg(test)]
 mod search;
 #[cfg(test)]
 mod steps;

@@ -35,6 +35,28 @@ set 3:
   8:5 assignment | i = index;
 ";
 
+/// A function that is called twice, and whose value is wrong.
+pub const TWICE: &str = "int up(int x) {
+    return x + 1;
+}
+int main(int a) {
+    int y;
+    y = up(a) + up(a);
+    assert(y == 2 * a);
+    return 0;
+}
+";
+
+/// Each of three executions alone could repair it.
+pub const TWICE_REPORT: &str = "located: places 1, sets 3
+set 1:
+  2:5 return at main/call 1 | return x + 1;
+set 2:
+  2:5 return at main/call 2 | return x + 1;
+set 3:
+  6:5 assignment at main | y = up(a) + up(a);
+";
+
 /// How a certificate begins that a search by the default settings and a bound of 1 writes.
 pub const HEAD: &str = "bugassist 2\nb 1 16 200000 1000\n";
 

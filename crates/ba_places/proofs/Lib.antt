@@ -1,0 +1,7 @@
+pub mod Orders
+pub mod Unique
+pub mod Numbering
+mod Weighed
+mod Sorting
+mod Steps
+mod Suspects

@@ -1,0 +1,5 @@
+pub mod Rows
+mod Agreement
+mod OneVerdict
+mod Reports
+mod Searching

@@ -1,0 +1,4 @@
+pub mod Jobs
+pub mod Report
+pub mod Answers
+pub mod Searches
