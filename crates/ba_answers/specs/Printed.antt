@@ -1,4 +1,4 @@
--- HOW THE PROGRAM ENDS with an answer: the status, its number, and the text that is printed, with its line
+-- THE END OF THE PROGRAM with an answer: the status, its number, and the text that is printed, with its line
 -- feed.
 
 use Rattle.std.specs.Prelude.{ℕ, Option, None, Some, List, [], ◌++◌, codes, decimal}
@@ -81,15 +81,16 @@ code_of cause.BreakOutside = codes "3.7"
 code_of cause.CallInIndex = codes "3.8"
 code_of cause.Limit = codes "3.9"
 
--- a position, and `end` where there is none
+-- a position, and `end` if there is none
 abbrev pub at_text : At → List ℕ
 at_text at = decimal at.line ++ codes ":" ++ decimal at.column
 
-abbrev pub place_text : Option At → List ℕ
-place_text None = codes "end"
-place_text (Some at) = at_text at
+-- a position, or `end` without one
+abbrev pub position_text : Option At → List ℕ
+position_text None = codes "end"
+position_text (Some at) = at_text at
 
--- the number of the error of an input, and of the piece where it comes
+-- the number of the error of an input, and of its piece
 abbrev pub input_text : InputFault → List ℕ
 input_text (input.NotANumber number) = codes "1 at number " ++ decimal number
 input_text (input.OutOfRange number) = codes "2 at number " ++ decimal number
@@ -97,15 +98,17 @@ input_text input.WrongCount = codes "3"
 input_text input.NoInput = codes "4"
 input_text input.TooMany = codes "5"
 
--- the line of the input, where there are several
+-- the line of the input, if there are several inputs
 abbrev pub behind_colon : Option ℕ → List ℕ
 behind_colon None = []
 behind_colon (Some line) = codes ": line " ++ decimal line
 
+-- the line that a message names at its end, if it names one
 abbrev pub behind_comma : Option ℕ → List ℕ
 behind_comma None = []
 behind_comma (Some line) = codes ", line " ++ decimal line
 
+-- the word for a file of a call
 abbrev pub file_word : File → List ℕ
 file_word file.Program = codes "program"
 file_word file.Input = codes "input"
@@ -113,6 +116,7 @@ file_word file.Inputs = codes "inputs"
 file_word file.Weights = codes "weights"
 file_word file.Certificate = codes "certificate"
 
+-- the words for what a certificate claims
 abbrev pub claim_text : Claim → List ℕ
 claim_text claim.Located = codes "located"
 claim_text claim.NoRepair = codes "no repair"
@@ -133,7 +137,7 @@ text_of (answer.Trap at) = codes "trap at " ++ at_text at ++ codes "\n"
 text_of (answer.NotFailing line) = codes "not failing" ++ behind_colon line ++ codes "\n"
 text_of answer.BadWords = codes "refused: words\n"
 text_of (answer.BadProgram fault) =
-    codes "refused: program, error " ++ code_of fault.cause ++ codes " at " ++ place_text fault.at
+    codes "refused: program, error " ++ code_of fault.cause ++ codes " at " ++ position_text fault.at
     ++ codes "\n"
 text_of (answer.BadInput which fault line) =
     codes "refused: " ++ file_word which ++ codes ", error " ++ input_text fault ++ behind_comma line

@@ -1,7 +1,7 @@
-//! What a call of the program comes to, before it is printed.
+//! The answers of a call, before they are printed.
 
 ghost use Rattle.std.specs.Prelude.{◌≡◌, ◌++◌, ℕ, None, Some, codes, decimal, IfOk, OnOk};
-ghost use Rattle.ba_answers.specs.Printed.{at_text, behind_colon, behind_comma, claim_text, code_of, file_word, input_text, place_text, status_of, text_of};
+ghost use Rattle.ba_answers.specs.Printed.{at_text, behind_colon, behind_comma, claim_text, code_of, file_word, input_text, position_text, status_of, text_of};
 ghost use Rattle.ba_answers.specs.declared.answers.Answer.{Answer};
 
 use crate::fault::{Cause, Fault};
@@ -17,7 +17,7 @@ use std::alloc::{AllocError, Global};
 pub enum InputFault {
     /// The piece of this number is no number.
     NotANumber(u32),
-    /// The number at this place is outside the type of its parameter.
+    /// Number I, from 1, is outside the type of its parameter.
     OutOfRange(u32),
     /// There are fewer or more numbers than the parameters take.
     WrongCount,
@@ -27,7 +27,7 @@ pub enum InputFault {
     TooMany,
 }
 
-/// What a certificate claims of a failing run.
+/// The claim of a certificate about a failing run.
 #[derive(Clone, Copy)]
 pub enum Claim {
     /// The least sets are those that it names.
@@ -40,9 +40,9 @@ pub enum Claim {
     BudgetSpent,
 }
 
-/// What a call comes to.
+/// The answer of a call.
 pub enum Answer {
-    /// The least sets were found: their report.
+    /// The least sets were found; this is their report.
     Located(Items<u8>),
     /// The least sets of a sample were found.
     Sampled {
@@ -53,37 +53,37 @@ pub enum Answer {
         /// How many sets there are.
         sets: u64,
     },
-    /// The certificate is accepted, and claims this.
+    /// The certificate is accepted, with this claim.
     Accepted(Claim),
-    /// The statements were ranked over several inputs: their report.
+    /// The statements were ranked over several inputs; this is their report.
     Ranked(Items<u8>),
-    /// The run fails at the assertion that begins here.
+    /// The run fails at the assertion that begins at this position.
     AssertFails(At),
-    /// The run traps at the statement that begins here.
+    /// The run traps at the statement that begins at this position.
     Trap(At),
     /// The run as written meets every assertion.
     NotFailing {
-        /// The line of its input, where there are several.
+        /// The line of its input, if there are several inputs.
         line: Option<u64>,
     },
     /// The words are no command.
     BadWords,
-    /// The text of the program spells none.
+    /// The text of the program spells no program.
     BadProgram(Fault),
     /// The text of this file gives no input of the program, or no inputs.
     BadInput {
         file: File,
         fault: InputFault,
-        /// The line that is refused, where there are several inputs and one of them is.
+        /// The refused line, if there are several inputs and one is refused.
         line: Option<u64>,
     },
     /// The program is too large.
     TooLarge,
-    /// The run goes past a bound.
+    /// The run exceeds a bound.
     BeyondBound {
-        /// Where the statement begins.
+        /// The position of the statement.
         at: At,
-        /// The line of the run's input, where there are several.
+        /// The line of the run's input, if there are several inputs.
         line: Option<u64>,
     },
     /// No set of statements could repair the run.
@@ -94,21 +94,23 @@ pub enum Answer {
         weight: u64,
         /// How many sets may be listed.
         most: u32,
-        /// The line of the input, where there are several.
+        /// The line of the input, if there are several inputs.
         line: Option<u64>,
     },
-    /// The search spent the conflicts that it may have before it found out the least sets.
+    /// The search spent its conflicts before the least sets were known.
     BudgetSpent {
-        /// How many they are.
+        /// How many conflicts that were.
         conflicts: u64,
-        /// The line of the input, where there are several.
+        /// The line of the input, if there are several inputs.
         line: Option<u64>,
     },
     /// The certificate is refused.
     BadCertificate {
-        /// What is wrong: the number of the step's error, from 1 to 14; 20 for a line that has not the form
-        /// of a head line, of settings or of a step, where it has to; 21 for a text that ends too early; or
-        /// 22 for settings that are not those of the call.
+        /// The code:
+        /// - 1 to 14: the number of the step's error.
+        /// - 20: the line has not the form that it has to have, of a head line, of settings or of a step.
+        /// - 21: the text ends too early.
+        /// - 22: the settings are not those of the call.
         code: u8,
         /// The first refused line, counted from 1.
         line: u64,
@@ -117,7 +119,7 @@ pub enum Answer {
     Unreadable(File),
     /// This file is too long.
     TooLong(File),
-    /// This line of the weights is the first that is refused.
+    /// This line of the weights is the first refused one.
     BadWeights(u64),
 }
 
@@ -163,7 +165,7 @@ impl Drop for Answer {
 }
 
 impl Answer {
-    /// How the program ends where the answer is printed whole.
+    /// The status that the program ends with if the answer is printed whole.
     pub fn status(&self) -> Status
         ensures { result ≡ status_of self.now }
     {
@@ -188,7 +190,7 @@ impl Answer {
 
     /// The text that is printed, with its line feed.
     ///
-    /// The one error is want of memory.
+    /// The only error is out of memory.
     pub fn text(&self, alloc: Global) -> Result<Vec<u8>, AllocError>
         ensures { IfOk result (λ text. text.items ≡ text_of self.now) }
     {
@@ -198,7 +200,7 @@ impl Answer {
     }
 }
 
-/// Adds the text of an answer.
+/// Appends the text of an answer.
 fn push_answer(answer: &Answer, text: &mut Vec<u8>) -> Result<(), AllocError>
     ensures { OnOk result (text.new.items ≡ text.old.items ++ text_of answer.now) }
 {
@@ -212,8 +214,8 @@ fn push_answer(answer: &Answer, text: &mut Vec<u8>) -> Result<(), AllocError>
             sets,
         } => push_sampled(*additions, *weight, *sets, text),
         Answer::Accepted(claim) => push_claim(*claim, text),
-        Answer::AssertFails(at) => push_with_place(b"assertion fails at ", *at, text),
-        Answer::Trap(at) => push_with_place(b"trap at ", *at, text),
+        Answer::AssertFails(at) => push_with_position(b"assertion fails at ", *at, text),
+        Answer::Trap(at) => push_with_position(b"trap at ", *at, text),
         Answer::NotFailing { line } => push_not_failing(*line, text),
         Answer::BadWords => text.extend_from_slice(b"refused: words\n"),
         Answer::BadProgram(fault) => push_fault(*fault, text),
@@ -230,7 +232,7 @@ fn push_answer(answer: &Answer, text: &mut Vec<u8>) -> Result<(), AllocError>
     }
 }
 
-/// Adds a position.
+/// Appends a position.
 fn push_at(at: At, text: &mut Vec<u8>) -> Result<(), AllocError>
     ensures { OnOk result (text.new.items ≡ text.old.items ++ at_text at) }
 {
@@ -239,8 +241,8 @@ fn push_at(at: At, text: &mut Vec<u8>) -> Result<(), AllocError>
     push_number(u64::from(at.column), text)
 }
 
-/// Adds these words and a position.
-fn push_with_place(words: &[u8], at: At, text: &mut Vec<u8>) -> Result<(), AllocError>
+/// Appends these words and a position.
+fn push_with_position(words: &[u8], at: At, text: &mut Vec<u8>) -> Result<(), AllocError>
     ensures { OnOk result (text.new.items
         ≡ text.old.items ++ (words.now ++ at_text at ++ codes "\n")) }
 {
@@ -262,7 +264,7 @@ fn file_word(file: File) -> &'static [u8]
     }
 }
 
-/// Adds the refusal of a file, which ends with these words.
+/// Appends the refusal of a file, which ends with these words.
 fn push_with_file(file: File, words: &[u8], text: &mut Vec<u8>) -> Result<(), AllocError>
     ensures { OnOk result (text.new.items
         ≡ text.old.items ++ (codes "refused: " ++ file_word file ++ words.now)) }
@@ -272,7 +274,7 @@ fn push_with_file(file: File, words: &[u8], text: &mut Vec<u8>) -> Result<(), Al
     text.extend_from_slice(words)
 }
 
-/// Adds the refusal of a file that is too long.
+/// Appends the refusal of a file that is too long.
 fn push_too_long(file: File, text: &mut Vec<u8>) -> Result<(), AllocError>
     ensures { OnOk result (text.new.items ≡ text.old.items ++ text_of (Answer.TooLong file)) }
 {
@@ -281,7 +283,7 @@ fn push_too_long(file: File, text: &mut Vec<u8>) -> Result<(), AllocError>
     text.extend_from_slice(b" bytes\n")
 }
 
-/// The words for what a certificate claims.
+/// The words for the claim of a certificate.
 fn claim_text(claim: Claim) -> &'static [u8]
     ensures { result.now ≡ claim_text claim }
 {
@@ -293,7 +295,7 @@ fn claim_text(claim: Claim) -> &'static [u8]
     }
 }
 
-/// Adds that a certificate is accepted, and what it claims.
+/// Appends that a certificate is accepted, with its claim.
 fn push_claim(claim: Claim, text: &mut Vec<u8>) -> Result<(), AllocError>
     ensures { OnOk result (text.new.items ≡ text.old.items ++ text_of (Answer.Accepted claim)) }
 {
@@ -328,9 +330,9 @@ fn code_of(cause: Cause) -> &'static [u8]
     }
 }
 
-/// Adds where a fault is.
-fn push_place(at: Option<At>, text: &mut Vec<u8>) -> Result<(), AllocError>
-    ensures { OnOk result (text.new.items ≡ text.old.items ++ place_text at) }
+/// Appends the position of a fault, or `end` if it has none.
+fn push_position(at: Option<At>, text: &mut Vec<u8>) -> Result<(), AllocError>
+    ensures { OnOk result (text.new.items ≡ text.old.items ++ position_text at) }
 {
     match at {
         Some(at) => push_at(at, text),
@@ -338,18 +340,18 @@ fn push_place(at: Option<At>, text: &mut Vec<u8>) -> Result<(), AllocError>
     }
 }
 
-/// Adds the refusal of a program for its fault.
+/// Appends the refusal of a program for its fault.
 fn push_fault(fault: Fault, text: &mut Vec<u8>) -> Result<(), AllocError>
     ensures { OnOk result (text.new.items ≡ text.old.items ++ text_of (Answer.BadProgram fault)) }
 {
     text.extend_from_slice(b"refused: program, error ")?;
     text.extend_from_slice(code_of(fault.cause))?;
     text.extend_from_slice(b" at ")?;
-    push_place(fault.at, text)?;
+    push_position(fault.at, text)?;
     text.extend_from_slice(b"\n")
 }
 
-/// Adds these words and a number.
+/// Appends these words and a number.
 fn push_numbered(words: &[u8], number: u64, text: &mut Vec<u8>) -> Result<(), AllocError>
     ensures { OnOk result (text.new.items ≡ text.old.items ++ (words.now ++ decimal number)) }
 {
@@ -357,7 +359,7 @@ fn push_numbered(words: &[u8], number: u64, text: &mut Vec<u8>) -> Result<(), Al
     push_number(number, text)
 }
 
-/// Adds the error of an input, and the number of the piece where it comes.
+/// Appends the error of an input, and the number of its piece.
 fn push_input_error(fault: InputFault, text: &mut Vec<u8>) -> Result<(), AllocError>
     ensures { OnOk result (text.new.items ≡ text.old.items ++ input_text fault) }
 {
@@ -370,7 +372,7 @@ fn push_input_error(fault: InputFault, text: &mut Vec<u8>) -> Result<(), AllocEr
     }
 }
 
-/// Adds the number of a line behind these words, where there is one.
+/// Appends the number of a line after these words, if there is one.
 fn push_behind(words: &[u8], line: Option<u64>, text: &mut Vec<u8>) -> Result<(), AllocError>
     ensures none { line ≡ None → OnOk result (text.new.items ≡ text.old.items) }
     ensures some { (number : ℕ) → line ≡ Some number → OnOk result
@@ -382,7 +384,7 @@ fn push_behind(words: &[u8], line: Option<u64>, text: &mut Vec<u8>) -> Result<()
     }
 }
 
-/// Adds the line of an input behind a colon, where there are several, and a line feed.
+/// Appends the line of an input after a colon, if there are several inputs, and a line feed.
 fn push_behind_colon(line: Option<u64>, text: &mut Vec<u8>) -> Result<(), AllocError>
     ensures { OnOk result (text.new.items
         ≡ text.old.items ++ (behind_colon line ++ codes "\n")) }
@@ -391,7 +393,7 @@ fn push_behind_colon(line: Option<u64>, text: &mut Vec<u8>) -> Result<(), AllocE
     text.extend_from_slice(b"\n")
 }
 
-/// Adds the line of an input behind a comma, where there are several, and a line feed.
+/// Appends the line of an input after a comma, if there are several inputs, and a line feed.
 fn push_behind_comma(line: Option<u64>, text: &mut Vec<u8>) -> Result<(), AllocError>
     ensures { OnOk result (text.new.items
         ≡ text.old.items ++ (behind_comma line ++ codes "\n")) }
@@ -400,7 +402,7 @@ fn push_behind_comma(line: Option<u64>, text: &mut Vec<u8>) -> Result<(), AllocE
     text.extend_from_slice(b"\n")
 }
 
-/// Adds that a run meets every assertion.
+/// Appends that a run meets every assertion.
 fn push_not_failing(line: Option<u64>, text: &mut Vec<u8>) -> Result<(), AllocError>
     ensures { OnOk result (text.new.items ≡ text.old.items ++ text_of (Answer.NotFailing line)) }
 {
@@ -408,7 +410,7 @@ fn push_not_failing(line: Option<u64>, text: &mut Vec<u8>) -> Result<(), AllocEr
     push_behind_colon(line, text)
 }
 
-/// Adds that a run goes past a bound.
+/// Appends that a run exceeds a bound.
 fn push_beyond(at: At, line: Option<u64>, text: &mut Vec<u8>) -> Result<(), AllocError>
     ensures { OnOk result (text.new.items
         ≡ text.old.items ++ text_of (Answer.BeyondBound at line)) }
@@ -418,7 +420,7 @@ fn push_beyond(at: At, line: Option<u64>, text: &mut Vec<u8>) -> Result<(), Allo
     push_behind_colon(line, text)
 }
 
-/// Adds the refusal of a file of inputs for its fault.
+/// Appends the refusal of a file of inputs for its fault.
 fn push_input_fault(
     file: File,
     fault: InputFault,
@@ -433,7 +435,7 @@ fn push_input_fault(
     push_behind_comma(line, text)
 }
 
-/// Adds the refusal of the weights for a line.
+/// Appends the refusal of the weights for a line.
 fn push_line(line: u64, text: &mut Vec<u8>) -> Result<(), AllocError>
     ensures { OnOk result (text.new.items ≡ text.old.items ++ text_of (Answer.BadWeights line)) }
 {
@@ -441,7 +443,7 @@ fn push_line(line: u64, text: &mut Vec<u8>) -> Result<(), AllocError>
     text.extend_from_slice(b"\n")
 }
 
-/// Adds a number between these words.
+/// Appends a number between these words.
 fn push_between(
     before: &[u8],
     number: u64,
@@ -455,7 +457,7 @@ fn push_between(
     text.extend_from_slice(after)
 }
 
-/// Adds two numbers, each behind these words.
+/// Appends two numbers, each after these words.
 fn push_two(
     before_first: &[u8],
     first: u64,
@@ -470,7 +472,7 @@ fn push_two(
     push_numbered(before_second, second, text)
 }
 
-/// Adds that there are more sets of this weight than may be listed.
+/// Appends that there are more sets of this weight than may be listed.
 fn push_too_many(
     weight: u64,
     most: u32,
@@ -490,7 +492,7 @@ fn push_too_many(
     push_behind_comma(line, text)
 }
 
-/// Adds that so many conflicts are spent.
+/// Appends that this many conflicts are spent.
 fn push_spent(conflicts: u64, line: Option<u64>, text: &mut Vec<u8>) -> Result<(), AllocError>
     ensures { OnOk result (text.new.items
         ≡ text.old.items ++ text_of (Answer.BudgetSpent conflicts line)) }
@@ -499,7 +501,7 @@ fn push_spent(conflicts: u64, line: Option<u64>, text: &mut Vec<u8>) -> Result<(
     push_behind_comma(line, text)
 }
 
-/// Adds the refusal of a certificate at a line.
+/// Appends the refusal of a certificate at a line.
 fn push_bad_certificate(code: u8, line: u64, text: &mut Vec<u8>) -> Result<(), AllocError>
     ensures { OnOk result (text.new.items
         ≡ text.old.items ++ text_of (Answer.BadCertificate code line)) }
@@ -514,7 +516,7 @@ fn push_bad_certificate(code: u8, line: u64, text: &mut Vec<u8>) -> Result<(), A
     text.extend_from_slice(b"\n")
 }
 
-/// Adds what the least sets of a sample weigh, and how many they are.
+/// Appends the weight and the number of the least sets of a sample.
 fn push_sampled(
     additions: u32,
     weight: u64,

@@ -1,10 +1,11 @@
-//! What is wrong with the text of a program.
+//! Faults of the text of a program.
 
 ghost use Rattle.std.specs.Prelude.{◌≡◌, Some};
 
 use ba_numbers::ids::At;
 
-/// What is wrong: the errors of the tokens, then those of their tree, then those of typing.
+/// The cause of a fault, as `LexError` describes it for tokens, `ParseError` for the tree and `TypeError` for
+/// typing, in this order.
 #[derive(Clone, Copy)]
 pub enum Cause {
     BadByte,
@@ -27,8 +28,8 @@ pub enum Cause {
     Limit,
 }
 
-/// What is wrong with the text of a program, and where: at no place where more had to follow the
-/// last token, and where there is no `main`.
+/// A fault of the text of a program. It has no position if more had to follow the last token, or if there is
+/// no `main`.
 #[derive(Clone, Copy)]
 pub struct Fault {
     pub cause: Cause,

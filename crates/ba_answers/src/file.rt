@@ -1,4 +1,4 @@
-//! The files that the words of a call name, and how long each may be.
+//! The files that the words of a call name, and their limits.
 
 ghost use Rattle.std.specs.Prelude.{◌≡◌};
 ghost use Rattle.ba_answers.specs.Limits.{limit_of};
@@ -11,12 +11,12 @@ pub enum File {
     /// The inputs of several runs, one a line.
     Inputs,
     Weights,
-    /// The certificate of a check.
+    /// The certificate to check.
     Certificate,
 }
 
 impl File {
-    /// How many bytes the file may have.
+    /// The limit on the file's bytes.
     pub fn limit(self) -> u64
         ensures { result ≡ limit_of self }
     {
@@ -27,8 +27,8 @@ impl File {
     }
 }
 
-/// How many bytes a file may have that is read whole.
+/// The limit on the bytes of a file that is read whole.
 pub const LIMIT: u64 = 65536;
 
-/// How many bytes a certificate may have.
+/// The limit on the bytes of a certificate.
 pub const CERTIFICATE_LIMIT: u64 = 4_611_686_018_427_387_904;

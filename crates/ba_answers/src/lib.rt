@@ -1,5 +1,4 @@
-//! What a call of the program comes to: its answer, with the text that is printed and the status that the program ends
-//! with. There is no world and no search in it.
+//! The exit statuses and messages of the program. No world and no search is in it.
 #![tactic(auto)]
 
 pub mod answers;

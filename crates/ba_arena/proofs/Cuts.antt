@@ -81,7 +81,7 @@ cut-live ws i words h =
     let out = live_cut 0 ws i (ap is_some h.is) words.whole in
     record { within = omega (arith, h.room); whole = out.0; clauses = out.1 }
 
--- the entry at a cut, and the gap behind it
+-- the entry at a cut, and the gap after it
 pub entry-at : (ws : List ℕ) (p : ℕ) → IsCut ws p → p < length ws
     → clause_at (clauses_of 0 ws) p ≡ entry_in (get_or ws p 0) (drop (suc p) ws)
 entry-at ws p cut h =

@@ -24,7 +24,7 @@ map_same f (x ∷ xs) (suc i) d h same =
     index : (i : ℕ) → suc (i + 1) ≡ suc i + 1
     index i = omega arith
 
--- what stands at the place that comes next
+-- what is at the place that comes next
 pub map_at : {X : Type 0} (f : X → X) (xs : List X) (i : ℕ) (d : X) → get_or (map f (take i xs) ++ drop i xs) i d ≡ get_or xs i d
 map_at f [] zero d = refl
 map_at f [] (suc i) d = refl

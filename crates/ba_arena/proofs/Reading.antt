@@ -54,7 +54,7 @@ room zero (w ∷ ws) (suc i) live whole = omega (arith, room (suc (suc (suc w)))
 room (suc left) (w ∷ ws) zero live whole = absurd (cc live)
 room (suc left) (w ∷ ws) (suc i) live whole = omega (arith, room left ws i live whole)
 
--- what stands at a place where a clause begins
+-- what is at a place where a clause begins
 pub record IsHere (ws : List ℕ) (i : ℕ) : Type 0 where
   pub is : clause_at (clauses_of 0 ws) i ≡ Some (stored_in (get_or ws i 0) (drop (suc i) ws))
   pub entry_is : entry_in (get_or ws i 0) (drop (suc i) ws) ≡ clause_at (clauses_of 0 ws) i
@@ -111,7 +111,7 @@ link_read ws i (suc zero) x h le read =
     ap link_of_word (link_word ws i (suc zero) x h le read) ∙ sym (ap (link_of 1) h.is)
 link_read ws i (suc (suc which)) x h le read = absurd (omega (arith, le))
 
--- a literal stands within its clause, and so within the words
+-- a literal is within its clause, and so within the words
 pub lit_within : (ws : List ℕ) (i k : ℕ) → IsHere ws i → k < length (lits_at (clauses_of 0 ws) i)
     → k < get_or ws i 0
 lit_within ws i k h k_in =

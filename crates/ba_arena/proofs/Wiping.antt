@@ -11,9 +11,8 @@ use Rattle.ba_arena.proofs.Reading.{left_le, here, IsHere, link_read, len_read}
 use Rattle.ba_arena.proofs.Cuts.{cut-live, dead-at, gap-at}
 use Rattle.ba_arena.proofs.Writing.{cons_both}
 
--- the words with those of dead clauses overwritten, but for the first of each, where so many words of the
--- present
--- clause are left, and it is dead or not
+-- The words with those of dead clauses overwritten, except the first of each. The present clause, dead or
+-- not, has this many words left.
 abbrev wiped : Bool → ℕ → List ℕ → List ℕ
 wiped gone left [] = []
 wiped gone zero (count ∷ rest) = count ∷ wiped (eqb (get_or rest 0 0) dead) (suc (suc (suc count))) rest
@@ -124,7 +123,7 @@ words-wiped ws words = record {
       (clauses-wiped false 0 ws)) ∙ is);
 }
 
--- where a clause is live, or isn't
+-- if a clause is live, or isn't
 gone : (o : Option Stored) → (IsSome o → ⊥) → o ≡ None
 gone None h = refl
 gone (Some s) h = absurd (h refl)

@@ -80,7 +80,7 @@ lacking-writes (suc left) (w ∷ ws) (suc i) j zero v e live h = absurd (omega (
 lacking-writes (suc left) (w ∷ ws) (suc i) j (suc q) v e live h =
     lacking-writes left ws i j q v (omega (arith, e)) live h
 
--- where one clause is changed into one that fits, or into none, all fit
+-- if one clause is changed into one that fits, or into none, all fit
 fit-set : (cs : Clauses) (i : ℕ) (o : Option Stored) → ((t : Stored) → o ≡ Some t → Fits t)
     → ((k : ℕ) (t : Stored) → clause_at cs k ≡ Some t → Fits t) → (k : ℕ) (t : Stored)
     → clause_at (set cs i o) k ≡ Some t → Fits t
@@ -111,7 +111,7 @@ pub entry-change : (b : Bool) (s t : Stored) (f : Option Stored → Option Store
 entry-change true s t f none some = sym none
 entry-change false s t f none some = some
 
--- a clause that fits where it isn't dead
+-- a clause that fits if it isn't dead
 pub entry-fits : (b : Bool) (s t : Stored) → Fits s → cond b None (Some s) ≡ Some t → Fits t
 entry-fits true s t fits e = absurd (cc e)
 entry-fits false s t fits e = subst Fits (cc e) fits

@@ -11,7 +11,7 @@ pub record Stored : Type 0 where
   pub first : Option ℕ
   pub second : Option ℕ
 
--- an arena: at each place the clause that begins there, if one does; a reference is a place
+-- an arena: at each index the clause that begins there, if one does; a reference is an index
 abbrev pub Clauses : Type 0
 Clauses = List (Option Stored)
 
@@ -23,19 +23,22 @@ clause_at clauses clause = get_or clauses clause None
 abbrev pub IsLive : Clauses → ℕ → Type 0
 IsLive clauses clause = IsSome (clause_at clauses clause)
 
+-- the literals of a clause, none without one
 abbrev pub lits_of : Option Stored → List Literal
 lits_of None = []
 lits_of (Some s) = s.lits
 
+-- the number of a clause, 0 without one
 abbrev pub number_of : Option Stored → ℕ
 number_of None = 0
 number_of (Some s) = s.number
 
+-- one of the two links of a clause
 abbrev pub link_of : ℕ → Option Stored → Option ℕ
 link_of which None = None
 link_of which (Some s) = if eqb which 0 then s.first else s.second
 
--- the literals of a live clause; none where the reference names no clause
+-- the literals of a live clause; none if the reference names no clause
 abbrev pub lits_at : Clauses → ℕ → List Literal
 lits_at clauses clause = lits_of (clause_at clauses clause)
 
@@ -58,7 +61,7 @@ linked which next None = None
 linked which next (Some s) =
     Some (if eqb which 0 then record s { first = next } else record s { second = next })
 
--- the arena with another clause in the place of one
+-- the arena with another clause at a reference
 abbrev pub changed : (Option Stored → Option Stored) → Clauses → ℕ → Clauses
 changed change clauses clause = set clauses clause (change (clause_at clauses clause))
 
@@ -69,12 +72,12 @@ pub record Adds (old new : Clauses) (clause : ℕ) (stored : Stored) : Type 0 wh
   pub there : clause_at new clause ≡ Some stored
   pub others : (k : ℕ) → k ≢ clause → clause_at new k ≡ clause_at old k
 
--- a reference names no word of a live clause but its first; that of a deleted clause doesn't either
+-- a reference is no word of a live clause except a first one; nor is that of a deleted clause
 abbrev pub IsOutside : Clauses → ℕ → Type 0
 IsOutside clauses r = (clause : ℕ) → IsLive clauses clause →
     (r ≤ clause) ⊎ (clause + 4 + length (lits_at clauses clause) ≤ r)
 
--- each reference names a live clause, or no word of any
+-- each reference names a live clause, or no word of one
 abbrev pub AreReferences : Clauses → List (Option ℕ) → Type 0
 AreReferences clauses references =
     (k r : ℕ) → get_or references k None ≡ Some r → IsLive clauses r ⊎ IsOutside clauses r

@@ -3,7 +3,7 @@
 use Rattle.std.specs.Prelude.{◌≡◌, ℕ, Option, None, Some, refl}
 use Prim.Native.Nat.{suc, zero}
 
--- the reference that a word stands for: 0 is none, and otherwise it is 1 more than a reference
+-- the reference of a word: none for 0, else one less than the word
 abbrev pub link_in : ℕ → Option ℕ
 link_in zero = None
 link_in (suc clause) = Some clause

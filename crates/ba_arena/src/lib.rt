@@ -1,11 +1,11 @@
-//! The arena of clauses.
+//! A clause arena with compaction in place (mark-compact).
 //!
-//! One vector of words holds every clause: how many literals it has, its number, two links, and its literals by
-//! their indices. A link is 0 for none, and otherwise 1 more than the place of a clause.
+//! One vector of words holds every clause: how many literals it has, its number, two links, and its literals
+//! by their indices. A link is 0 for none, and otherwise 1 more than the index of a clause.
 //!
-//! The links thread lists of clauses through the arena without taking memory: link 0 belongs to the literal at
-//! place 0, link 1 to that at place 1 (M. Moskewicz, C. Madigan, Y. Zhao, L. Zhang, S. Malik, Chaff: Engineering an
-//! Efficient SAT Solver, on watched literals).
+//! The links thread lists of clauses through the arena without taking memory. Link 0 belongs to the clause's
+//! first literal, link 1 to its second. Watched literals: M. Moskewicz, C. Madigan, Y. Zhao, L. Zhang, S.
+//! Malik, Chaff: Engineering an Efficient SAT Solver.
 #![tactic(auto)]
 
 ghost use Rattle.std.specs.Prelude.{◌≡◌, ◌+◌, ◌-◌, ◌^◌, ◌<◌, ◌≤◌, [], ◌++◌, ◌⊎◌, None, Some, length, get_or, set, take, drop, map, ℕ, IfOk, IfSome, OnOk, OnErr};
@@ -21,20 +21,20 @@ pub use link::Link;
 use std::alloc::{AllocError, Global};
 use std::marker::Model;
 
-/// The place of a clause's number among its words.
+/// The index of a clause's number among its words.
 const NUMBER: usize = 1;
 
-/// The place of a clause's first link among its words; the second follows it.
+/// The index of a clause's first link among its words; the second follows it.
 const LINKS: usize = 2;
 
-/// The place of a clause's first literal among its words.
+/// The index of a clause's first literal among its words.
 const LITS: usize = 4;
 
-/// The word of a dead clause in the place of its number.
+/// The word that a dead clause has as its number.
 const DEAD: u32 = u32::MAX;
 
-/// A reference to a clause of an arena: the place of its first word. It names the clause as long as the clause is
-/// live.
+/// A reference to a clause of an arena: the index of its first word. It names the clause as long as the
+/// clause is live.
 #[derive(Clone, Copy, PartialEq, Eq, Debug)]
 pub struct ClauseRef {
     index: u32,
@@ -63,7 +63,7 @@ impl ClauseRef {
         }
     }
 
-    /// The link that a word stands for.
+    /// The link of a word.
     fn from_word(word: u32) -> Option<ClauseRef>
         ensures { result ≡ link_of_word word }
     {
@@ -104,8 +104,8 @@ impl Arena {
 
     /// Adds a clause without links and gives its reference.
     ///
-    /// The one error is want of memory or of room, which is for 2^32 - 1 words, for numbers below 2^32 - 1 and for indices
-    /// of literals below 2^32. It leaves the arena as it was.
+    /// The only error is out of memory, which leaves the arena as it was. It comes also for 2^32 words in the
+    /// arena, a number of 2^32 - 1 or more, or a literal's index of 2^32 or more.
     pub fn add(&mut self, lits: &[Lit], number: u64) -> Result<ClauseRef, AllocError>
         ensures ok { IfOk result (λ clause.
             Adds self.old self.new clause (record
@@ -125,7 +125,7 @@ impl Arena {
         })
     }
 
-    /// The literal at a place of a clause.
+    /// The literal at an index of a clause.
     pub fn lit(&self, clause: ClauseRef, place: usize) -> Lit
         requires { place < length (lits_at self.now clause) }
         ensures { result ≡ lit_at (lits_at self.now clause) place }
@@ -149,7 +149,7 @@ impl Arena {
         self.words[clause.index as usize + NUMBER] as u64
     }
 
-    /// The link of a clause's first literal (0) or second literal (1): None exactly where none is set.
+    /// The link of a clause's first literal (0) or second literal (1): `None` exactly if none is set.
     pub fn link(&self, clause: ClauseRef, which: usize) -> Option<ClauseRef>
         requires live { IsLive self.now clause }
         requires which { which ≤ 1 }
@@ -167,7 +167,8 @@ impl Arena {
         self.words[clause.index as usize + LINKS + which] = ClauseRef::to_word(next);
     }
 
-    /// Takes a clause out. Its words stay until the arena is compacted; lists that name it are to be threaded anew.
+    /// Deletes a clause. Its words stay until the arena is compacted. Lists that name it have to be threaded
+    /// anew.
     pub fn mark_dead(&mut self, clause: ClauseRef)
         requires { IsLive self.old clause }
         ensures { self.new ≡ set self.old clause None }
@@ -175,7 +176,7 @@ impl Arena {
         self.words[clause.index as usize + NUMBER] = DEAD;
     }
 
-    /// Exchanges two literals of a clause. The links stay at their places.
+    /// Exchanges two literals of a clause. The links stay where they are.
     pub fn swap(&mut self, clause: ClauseRef, a: usize, b: usize)
         requires a_within { a < length (lits_at self.old clause) }
         requires b_within { b < length (lits_at self.old clause) }
@@ -206,16 +207,16 @@ impl Arena {
         to_reference(live_from(self.words.as_slice(), end))
     }
 
-    /// Live clauses have no word in common. It does nothing.
+    /// Law: live clauses have no word in common. It does nothing.
     pub fn keep_apart(&self)
         ensures { (clause : ℕ) → IsLive self.now clause → IsOutside self.now clause }
     {
         let _ = &self.words;
     }
 
-    /// Moves the live clauses down, so that no gap is left where clauses were deleted. References follow their clauses:
-    /// those of `kept` and `others`, of which those of deleted clauses become None, and those of `live`, whose clauses are
-    /// live. It takes no memory.
+    /// Moves the live clauses down over the gaps of dead ones. References follow their clauses. In `kept` and
+    /// `others` the references of deleted clauses become `None`; the clauses of `live` are live. It takes no
+    /// memory.
     pub fn compact(
         &mut self,
         kept: &mut [Option<ClauseRef>],
@@ -238,7 +239,7 @@ impl Arena {
         move_down(&mut self.words);
     }
 
-    /// Sets the first link of each live clause to the place to which `move_down` moves it.
+    /// Sets the first link of each live clause to the index to which `move_down` moves it.
     fn plan(&mut self)
         ensures { Plans self.old self.new }
     {
@@ -258,7 +259,7 @@ impl Arena {
         }
     }
 
-    /// Rewrites references to what the first links of their clauses name, where they name a clause.
+    /// Replaces references by what the first links of their clauses name, if these name a clause.
     fn follow(&self, live: &mut [ClauseRef])
         requires { (k : ℕ) → k < length live.old → IsLive self.now (get_or live.old k 0) }
         ensures { live.new ≡ map (followed self.now) live.old }
@@ -271,7 +272,7 @@ impl Arena {
     }
 }
 
-/// The reference of the clause at a place.
+/// The reference of the clause at an index.
 fn to_reference(place: Option<usize>) -> Option<ClauseRef>
     requires { IfSome place (λ p. p < 2 ^ 32 - 1) }
     ensures { result ≡ place }
@@ -284,7 +285,7 @@ fn to_reference(place: Option<usize>) -> Option<ClauseRef>
     }
 }
 
-/// The place of the first live clause from the beginning of a clause on.
+/// The index of the first live clause from the beginning of a clause on.
 fn live_from(words: &[u32], start: usize) -> Option<usize>
     requires { IsCut words.now start }
     ensures first { IsFirstFrom (clauses_of 0 words.now) start result }
@@ -319,7 +320,7 @@ fn move_down(words: &mut Vec<u32>)
     words.truncate(end);
 }
 
-/// Overwrites the words of dead clauses, but for the first of each, by the word of the dead.
+/// Overwrites the words of dead clauses, except the first of each, by the dead word.
 fn wipe(words: &mut Vec<u32>)
     requires { AreWords words.old.items }
     ensures words { AreWords words.new.items }
@@ -339,7 +340,7 @@ fn wipe(words: &mut Vec<u32>)
     }
 }
 
-/// Rewrites references to what the first links of their clauses name; those of no live clause to none.
+/// Replaces references by what the first links of their clauses name; those of no live clause by none.
 fn rewrite(words: &[u32], kept: &mut [Option<ClauseRef>])
     requires words { AreWords words.now }
     requires wiped { IsWiped words.now }
@@ -353,7 +354,7 @@ fn rewrite(words: &[u32], kept: &mut [Option<ClauseRef>])
     }
 }
 
-/// What the first link of a clause names; None where the clause isn't live.
+/// What the first link of a clause names; `None` if the clause isn't live.
 fn forward(words: &[u32], clause: ClauseRef) -> Option<ClauseRef>
     requires words { AreWords words.now }
     requires wiped { IsWiped words.now }
@@ -388,7 +389,7 @@ fn append(words: &mut Vec<u32>, lits: &[Lit], number: u64) -> Result<(), AllocEr
 
 /// The word of a literal.
 ///
-/// The one error is want of room, which is for indices below 2^32.
+/// The only error is that its index is 2^32 or more.
 fn word_of(lit: Lit) -> Result<u32, AllocError>
     ensures word { IfOk result (λ word. word ≡ index_of lit) }
     ensures counted { IfOk result (λ word. 2 ≤ word) }

@@ -5,10 +5,10 @@ ghost use Rattle.std.specs.Prelude.{◌≡◌, None, Some};
 use crate::ClauseRef;
 use std::marker::Model;
 
-/// A reference to a clause, or none, in one word, as a table of lists of clauses has it at each place.
+/// A reference to a clause, or none, in one word, for tables of lists of clauses.
 #[derive(Clone, Copy)]
 pub struct Link {
-    /// 0 for none, and otherwise 1 more than the place of the clause.
+    /// 0 for none, and otherwise 1 more than the index of the clause.
     word: u32,
 }
 

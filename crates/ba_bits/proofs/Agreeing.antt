@@ -81,6 +81,6 @@ module _ (nodes : List Node) (free other : ℕ → Bool) (ordered : AreOrdered n
     | inr above ↦ by-plain bit (at-node k bit.index (omega arith) (omega arith) (up-to k (omega arith)))
   ]
 
-  -- bits have the same values where the free bits of their nodes do
+  -- bits have the same values if the free bits of their nodes do
   pub truth-agree : (bit : Bit) → IsBitOf nodes bit → truth free nodes bit ≡ truth other nodes bit
   truth-agree = up-to (length nodes) (omega arith)

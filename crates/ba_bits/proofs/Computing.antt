@@ -122,7 +122,7 @@ unfolding value_of
 ne-value t y z x is = ap Some (truth_converted t (not (int_eq y z))
     ∙ ap number_of_truth (ap not (equal-is t y z x is)))
 
--- WORDS OF VALUES: in the function's own terms, where the operator is known and its type is signed or not
+-- WORDS OF VALUES: in the function's own terms, if the operator is known and its type is signed or not
 
 module _ (old : List Node) (a b : List Bit) (op known : BinOp) (t : CType) (signed : Bool) (is : op ≡ known)
     (typed : word_type signed ≡ t) where

@@ -7,7 +7,7 @@ use Rattle.std.proofs.lemmas.List.{ext_get_or, get_or-map, get_or-set_other, get
 use Rattle.ba_bits.proofs.Laws.{low-at}
 use Rattle.ba_bits.proofs.Low.{low-pos}
 use Rattle.ba_bits.specs.Bits.{AreEntriesOf, firsts_in, numbers_in, value_in, values_in, word_at}
-use Rattle.ba_cells.specs.Cells.{AreCellsOf, AreWritten, IsCellRead, cell_at, place_read}
+use Rattle.ba_cells.specs.Cells.{AreCellsOf, AreWritten, IsCellRead, cell_at, index_read}
 use Rattle.ba_cells.proofs.Places.{cells-extends}
 use Rattle.ba_nodes.specs.declared.Bit.{Bit}
 use Rattle.ba_nodes.specs.declared.Node.{Node}
@@ -129,8 +129,8 @@ read-low free old new cells index word index_long long read =
     sym (low-pos (number_of free new word) small)
     ∙ ap (λ n. low_word (pos n)) (read free)
     ∙ ap low_word (sym (value-cell free old cells
-    (place_read (length cells) (low_number free old index 8))))
-    ∙ (λ i. low_word (get_or (values_in free old cells) (place_read (many i) (here i)) (pos 0)))
+    (index_read (length cells) (low_number free old index 8))))
+    ∙ (λ i. low_word (get_or (values_in free old cells) (index_read (many i) (here i)) (pos 0)))
 
 -- A NUMBER OF 32 PLACES that is one of two
 
@@ -238,7 +238,7 @@ both-more : (t : Bool) (xs ys : List ℤ) (x y : ℤ)
 both-more true xs ys x y = sym (map_push low_word xs x)
 both-more false xs ys x y = sym (map_push low_word ys y)
 
--- the low bits of the entries' first words where a bit is true, and else of the cells
+-- the low bits of the entries' first words if a bit is true, and else of the cells
 abbrev pub numbers_chosen : (ℕ → Bool) → List Node → List (List (List Bit)) → List ℕ → List (List Bit) → Bit
     → ℕ → List ℕ
 numbers_chosen free nodes entries values cells which i = map low_word (cond (truth free nodes which)

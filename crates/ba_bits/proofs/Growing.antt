@@ -89,7 +89,7 @@ taken-same free other nodes new (Write array index value when) z words same is =
 
 -- ONE MORE ENTRY
 
--- the words of an entry behind others, if it is needed
+-- the words of an entry after others, if it is needed
 pub record IsNext (nodes : List Node) (entries : List (List (List Bit))) (op : WordOp) (here : Bool)
     (new : List Node)
     (words : List (List Bit)) : Type 0 where

@@ -6,7 +6,7 @@ use Rattle.std.specs.Int.{int_div_euclid}
 use Rattle.std.proofs.lemmas.List.{length-map}
 use Rattle.ba_bits.proofs.Low.{converted-low, low-pos}
 use Rattle.ba_bits.specs.Needs.{names_of}
-use Rattle.ba_cells.specs.Cells.{place_read}
+use Rattle.ba_cells.specs.Cells.{index_read}
 use Rattle.ba_numbers.specs.declared.numbers.BinOp.{BinOp}
 use Rattle.ba_numbers.specs.declared.numbers.BinOp.TheVariants.{Mul, Div, Rem, Add, Sub, Shl, Shr, Lt, Le, Gt, Ge, Eq, Ne, And, Xor, Or}
 use Rattle.ba_numbers.specs.declared.numbers.CType.{CType}
@@ -124,9 +124,9 @@ three-same b c x y z w e f g = λ i. cond (e i) (f i) (g i)
 read-same : (ys zs : List ℤ) (i j : ℤ) → lows ys ≡ lows zs → low_word i ≡ low_word j
     → low_word (element_read ys i) ≡ low_word (element_read zs j)
 read-same ys zs i j e f =
-    low-same ys zs (place_read (length ys) (low_word i % 256)) e
-    ∙ ap (λ n. low_word (get_or zs (place_read n (low_word i % 256)) (pos 0))) (long-same ys zs e)
-    ∙ ap (λ n. low_word (get_or zs (place_read (length zs) (n % 256)) (pos 0))) f
+    low-same ys zs (index_read (length ys) (low_word i % 256)) e
+    ∙ ap (λ n. low_word (get_or zs (index_read n (low_word i % 256)) (pos 0))) (long-same ys zs e)
+    ∙ ap (λ n. low_word (get_or zs (index_read (length zs) (n % 256)) (pos 0))) f
 
 write-same : (ys zs : List ℤ) (i j y z : ℤ) → lows ys ≡ lows zs → low_word i ≡ low_word j
     → low_word y ≡ low_word z

@@ -1,4 +1,5 @@
--- Needed entries have the same under numbers, and under those that bits spell where these are the bits of the numbers.
+-- Needed entries have the same under numbers, and under those that bits spell if these are the bits of the
+-- numbers.
 use Rattle.std.proofs.Common.{◌≡◌, ℕ, zero, suc, ◌<◌, ◌≤◌, Bool, true, List, [], ◌∷◌, length, get_or, take, Some, slice_get, refl, sym, ◌∙◌, ap, subst, arith, ℤ, pos, inl, inr}
 use Rattle.std.proofs.lemmas.Bool.{and_parts, cases_lt}
 use Rattle.std.proofs.lemmas.Option.{slice_get-get_or}

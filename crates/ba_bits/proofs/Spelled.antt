@@ -42,7 +42,7 @@ elements-words free nodes [] w = refl
 elements-words free nodes (words ∷ entries) zero = refl
 elements-words free nodes (words ∷ entries) (suc w) = elements-words free nodes entries w
 
--- where the words of an entry have the low bits of some numbers, what they spell has them too
+-- if the words of an entry have the low bits of some numbers, what they spell has them too
 spelled-low : (free : ℕ → Bool) (nodes : List Node) (entries : List (List (List Bit))) (w : ℕ) (zs : List ℤ)
     → numbers_in free nodes (words_at entries w) ≡ lows zs
     → lows (elements_at (elements_in free nodes entries) w) ≡ lows zs
@@ -71,7 +71,7 @@ spelled-first free nodes entries w zs is =
     ∙ values-numbers free nodes (words_at entries w) ∙ ap (map pos) is)
     ∙ first-pos (lows zs) ∙ ap pos (first-low zs)
 
--- NAMES of an entry stand before it
+-- NAMES of an entry are before it
 
 own-names : (ls : List ℕ) (op : WordOp) → fits_behind ls op ≡ true
     → are_names (length ls) (names_of op) ≡ true
@@ -219,7 +219,7 @@ module _ (old new : List Node) (ops : List WordOp) (needed : List Bool) (entries
       ∙ ap (λ ns. get_or ns 0 0) (spelled w below need)
       ∙ first-low (elements_at (values_of f ops) w)
 
-  -- and is other than 0 where this is
+  -- and is other than 0 if this is
   pub spelled-nonzero : (w : ℕ) → w < length ops → is_needed needed w ≡ true
       → is_nonzero (value_in free new (word_at entries w)) ≡ is_nonzero (value_at (values_of f ops) w)
   spelled-nonzero w below need =

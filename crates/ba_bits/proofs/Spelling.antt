@@ -126,7 +126,7 @@ next-digit n i =
       turned : (a p d : ℕ) → a + p * d ≡ d * p + a
       turned a p d = grind arith
 
--- the number of a word's low places stays where its bits' free bits do
+-- the number of a word's low places stays if its bits' free bits do
 pub low-agree : (nodes : List Node) (free other : ℕ → Bool) (word : List Bit) (i : ℕ) → AreOrdered nodes
     → AgreeBelow (length nodes) free other → AreBitsOf nodes word
     → low_number free nodes word i ≡ low_number other nodes word i

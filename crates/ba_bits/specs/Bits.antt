@@ -1,4 +1,4 @@
--- What the bits of the entries of a word list are.
+-- The bits of the entries of a word list.
 
 use Rattle.std.specs.Prelude.{◌≡◌, ℕ, ◌<◌, ℤ, pos, Bool, true, false, List, [], map, length, replicate, Some, slice_get, slice_index_or}
 use Rattle.ba_cells.specs.Cells.{AreCellsOf, cell_at}
@@ -39,15 +39,15 @@ values_in free nodes words = map (value_in free nodes) words
 abbrev pub HaveLowBits : List Node → List (List Bit) → ((ℕ → Bool) → List ℤ) → Type 0
 HaveLowBits nodes words values = (free : ℕ → Bool) → numbers_in free nodes words ≡ map low_word (values free)
 
--- what the first words of these entries spell
+-- the numbers of the first words of these entries
 abbrev pub firsts_in : (ℕ → Bool) → List Node → List (List (List Bit)) → List ℕ → List ℤ
 firsts_in free nodes entries ws = map (λ w. value_in free nodes (word_at entries w)) ws
 
--- what the bits of all entries spell
+-- the numbers of all entries' words
 abbrev pub elements_in : (ℕ → Bool) → List Node → List (List (List Bit)) → List (List ℤ)
 elements_in free nodes entries = map (values_in free nodes) entries
 
--- the assignment of a list's words that bits spell
+-- the assignment of a list's free words and flags that bits spell
 abbrev pub assignment_of : (ℕ → Bool) → List Node → List (List (List Bit)) → Assignment
 assignment_of free nodes entries w = value_in free nodes (word_at entries w)
 
@@ -55,7 +55,7 @@ assignment_of free nodes entries w = value_in free nodes (word_at entries w)
 abbrev pub AreEntriesOf : List Node → List (List (List Bit)) → Type 0
 AreEntriesOf nodes entries = (w : ℕ) → AreCellsOf nodes (words_at entries w)
 
--- the words spell what an entry has, by what the words of earlier entries spell
+-- the words spell the entry's elements, by what the words of earlier entries spell
 abbrev pub SpellEntry : List Node → List (List (List Bit)) → WordOp → List Node → List (List Bit) → Type 0
 SpellEntry old entries op new words = (free : ℕ → Bool) → numbers_in free new words
     ≡ map low_word (entry_of (value_in free new (cell_at words 0)) (elements_in free old entries) op)
@@ -70,13 +70,15 @@ IsTaken free nodes _ z words = Unit {0}
 abbrev pub AgreeBelow : ℕ → (ℕ → Bool) → (ℕ → Bool) → Type 0
 AgreeBelow n free other = (k : ℕ) → k < n → free k ≡ other k
 
--- whatever the bits before were, they can be so that an entry has the bits of this number
+-- for any values of the earlier bits there are values of the new ones such that the entry has the bits of
+-- this number
 pub record Taking (old : List Node) (op : WordOp) (new : List Node) (words : List (List Bit))
     (start : ℕ → Bool) (z : ℤ) : Type 0 where
   pub free : ℕ → Bool
   pub agrees : AgreeBelow (length old) start free
   pub takes : IsTaken free new op z words
 
+-- the entry can take each value, whatever the earlier bits are
 abbrev pub CanTake : List Node → WordOp → List Node → List (List Bit) → Type 0
 CanTake old op new words = (start : ℕ → Bool) (z : ℤ) → Taking old op new words start z
 
@@ -84,7 +86,7 @@ CanTake old op new words = (start : ℕ → Bool) (z : ℤ) → Taking old op ne
 abbrev pub is_needed : List Bool → ℕ → Bool
 is_needed needed w = slice_index_or needed w false
 
--- words spell 0, whatever the nodes are and the free bits have
+-- the words spell 0 for all nodes and free bits
 abbrev pub SpellZero : List (List Bit) → Type 0
 SpellZero words = (nodes : List Node) (free : ℕ → Bool)
     → numbers_in free nodes words ≡ replicate (length words) 0
@@ -99,14 +101,15 @@ abbrev pub AreTaken : (ℕ → Bool) → List Node → List WordOp → List Bool
 AreTaken free nodes ops needed f entries = (w : ℕ) (op : WordOp) → slice_get ops w ≡ Some op
     → is_needed needed w ≡ true → IsTaken free nodes op (f w) (words_at entries w)
 
+-- an assignment under which the needed entries take these values, as `start` on the earlier bits
 pub record TakingAll (old : List Node) (ops : List WordOp) (needed : List Bool) (new : List Node)
     (entries : List (List (List Bit))) (start : ℕ → Bool) (f : Assignment) : Type 0 where
   pub free : ℕ → Bool
   pub agrees : AgreeBelow (length old) start free
   pub takes : AreTaken free new ops needed f entries
 
--- the words of the entries of a list: those that are needed spell what they have, and free words and flags can
--- have the bits of any numbers
+-- The words of the entries of a list. Those that are needed spell their elements; free words and flags can
+-- have the bits of any numbers.
 pub record AreEntries (old : List Node) (ops : List WordOp) (needed : List Bool) (new : List Node)
     (entries : List (List (List Bit))) : Type 0 where
   pub lengths : map length entries ≡ lengths_of ops

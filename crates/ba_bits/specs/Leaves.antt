@@ -12,6 +12,6 @@ pub record Spelling (old new : List Node) (word : List Bit) (start : ℕ → Boo
   pub agrees : AgreeBelow (length old) start free
   pub spells : number_of free new word ≡ number
 
--- whatever the bits before were, the word can have each number of 32 places
+-- for any values of the earlier bits, the word can have each number of 32 bits
 abbrev pub CanSpell : List Node → List Node → List Bit → Type 0
 CanSpell old new word = (start : ℕ → Bool) (number : ℕ) → number < 2 ^ 32 → Spelling old new word start number

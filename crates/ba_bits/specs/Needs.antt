@@ -17,6 +17,7 @@ names_of (Fill array values when) = array ∷ when ∷ values
 names_of (Write array index value when) = array ∷ index ∷ value ∷ when ∷ []
 names_of _ = []
 
+-- all these entries are needed
 abbrev pub are_needed : List Bool → List ℕ → Bool
 are_needed needed ws = list_all (is_needed needed) ws
 
@@ -30,7 +31,7 @@ abbrev pub AreClosed : List WordOp → List Bool → Type 0
 AreClosed ops needed = (w : ℕ) (op : WordOp) → slice_get ops w ≡ Some op → is_needed needed w ≡ true
     → are_needed needed (names_of op) ≡ true
 
--- no entry is needed that could be left out: all marks have it that have the roots and what each marked entry
+-- no entry is needed without cause: it is marked by all marks that have the roots and what each marked entry
 -- names
 abbrev pub AreFewest : List WordOp → List ℕ → List Bool → Type 0
 AreFewest ops roots needed = (marks : List Bool) → are_needed marks roots ≡ true → AreClosed ops marks

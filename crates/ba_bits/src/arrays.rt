@@ -18,7 +18,7 @@ use ba_nodes::{Bit, Nodes};
 use ba_words::{Word, select};
 use std::alloc::{AllocError, Global};
 
-/// So many words that are 0.
+/// `count` words that are 0.
 pub(crate) fn zeros(alloc: Global, count: usize) -> Result<Cells, AllocError>
     requires some { 1 ≤ count }
     requires few { count ≤ 256 }
@@ -47,7 +47,7 @@ pub(crate) fn read(nodes: &mut Nodes, array: &[Word], index: &Word) -> Result<Wo
     Ok(word)
 }
 
-/// The array with the first words of these entries for its elements where `when` is not 0, and else as it was.
+/// The array with the first words of these entries for its elements, if `when` is not 0, and else as before.
 pub(crate) fn fill(
     alloc: Global,
     nodes: &mut Nodes,
@@ -75,7 +75,7 @@ pub(crate) fn fill(
     Ok(Cells::from_vec(filled))
 }
 
-/// The first words of these entries where `which` is true, and else the cells.
+/// The first words of these entries if `which` is true, and else the cells.
 fn select_all(
     alloc: Global,
     nodes: &mut Nodes,
@@ -104,8 +104,8 @@ fn select_all(
     Ok(words)
 }
 
-/// The array with the value for its element at the index, where `when` is not 0 and the index is in the array, and
-/// else as it was.
+/// The array with the value at the index, if `when` is not 0 and the index is in the array, and else as
+/// before.
 pub(crate) fn write(
     alloc: Global,
     nodes: &mut Nodes,

@@ -7,8 +7,8 @@ use ba_words::Word;
 use std::alloc::{AllocError, Global};
 use std::marker::Model;
 
-/// The words of bits of an entry of a word list, from 1 to 256: one of a word, and one for each element of an array.
-/// Contracts see the list of the words.
+/// The words of bits of an entry of a word list: one for a word, and one for each of 1 to 256 elements. A
+/// contract sees the list of the words.
 #[derive(Drop)]
 pub struct Cells {
     words: Vec<Word>,
@@ -29,7 +29,7 @@ impl Model for Cells {
 impl Cells {
     /// A single word.
     ///
-    /// The one error is want of memory.
+    /// The only error is out of memory.
     pub fn one(alloc: Global, word: Word) -> Result<Cells, AllocError>
         ensures { IfOk result (λ cells. cells ≡ word ∷ []) }
     {

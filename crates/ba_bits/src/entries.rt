@@ -15,9 +15,9 @@ use ba_wordlist::words::WordOp;
 use ba_words::Word;
 use std::alloc::{AllocError, Global};
 
-/// The bits of the entries of a word list, in their order. An entry that isn't needed has words that are 0.
+/// The bits of the entries of a word list, in order. An entry that isn't needed has words that are 0.
 ///
-/// The one error is want of memory.
+/// The only error is out of memory.
 pub fn bits_of(
     alloc: Global,
     nodes: &mut Nodes,
@@ -41,7 +41,7 @@ pub fn bits_of(
     Ok(entries)
 }
 
-/// The words of one entry behind others, which are 0 if it isn't needed.
+/// The words of the next entry, which are 0 if it isn't needed.
 fn next_entry(
     alloc: Global,
     nodes: &mut Nodes,
@@ -90,7 +90,7 @@ fn words_in(entries: &[Cells], op: &WordOp) -> usize
     }
 }
 
-/// The bits of one entry behind others.
+/// The bits of the next entry.
 fn entry(
     alloc: Global,
     nodes: &mut Nodes,

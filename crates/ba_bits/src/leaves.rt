@@ -31,7 +31,7 @@ pub(crate) fn constant_word(number: u32) -> Word
     word
 }
 
-/// The word that is 1 where the bit is true, and else 0. It takes no memory.
+/// The word that is 1 if the bit is true, and else 0. It takes no memory.
 pub(crate) fn truth_word(bit: Bit) -> Word
     ensures { (nodes : List Node) → IsBitOf nodes bit
         → HasNumber nodes result (λ free. digit (truth free nodes bit)) }
@@ -41,7 +41,7 @@ pub(crate) fn truth_word(bit: Bit) -> Word
     word
 }
 
-/// The word that is 0 where the bit is true, and else 1. It takes no memory.
+/// The word that is 0 if the bit is true, and else 1. It takes no memory.
 pub(crate) fn negated_word(bit: Bit) -> Word
     ensures { (nodes : List Node) → IsBitOf nodes bit
         → HasNumber nodes result (λ free. digit (not (truth free nodes bit))) }

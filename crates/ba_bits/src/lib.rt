@@ -1,9 +1,11 @@
-//! The bits of the entries of a word list.
+//! Bit-blasting: the entries of a word list as words of bits over an and-inverter graph, a
+//! [`Nodes`](ba_nodes::Nodes).
 //!
-//! Each entry becomes words of bits over the gates of a [`Nodes`](ba_nodes::Nodes): one word, or one for each element
-//! of an array. Under each assignment of the free bits they spell what the entry has under the assignment of the
-//! list's words that the bits spell. Free words are free bits, constants are constant bits, and operators are
-//! circuits. The one error is want of memory, which leaves every bit its value; further gates may have been added.
+//! A word is one word of bits, an array one for each element. Under each assignment of the free bits they
+//! spell the entry's elements, by the assignment of the list that the bits spell. Free words are free bits,
+//! constants are constant bits, and operators are circuits.
+//!
+//! The only error is out of memory. It leaves every bit its value; gates may have been added.
 #![tactic(auto)]
 
 mod arrays;

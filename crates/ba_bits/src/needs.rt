@@ -8,9 +8,9 @@ ghost use Rattle.ba_wordlist.specs.Facts.{are_names, are_words};
 use ba_wordlist::words::WordOp;
 use std::alloc::{AllocError, Global};
 
-/// Which entries some entries are made from, these among them: whether it is so of each entry of the list.
+/// For each entry of the list, whether it is a root or some root is made from it.
 ///
-/// The one error is want of memory.
+/// The only error is out of memory.
 pub fn needed_entries(
     alloc: Global,
     words: &[WordOp],
@@ -33,7 +33,7 @@ pub fn needed_entries(
     Ok(needed)
 }
 
-/// Marks the entries that the entry of this number names, if it is marked.
+/// Marks the entries that the entry of this number names, if it is marked itself.
 fn mark_from(needed: &mut [bool], number: usize, op: &WordOp)
     requires number { number < length needed.old }
     requires names { are_names (length needed.old) (names_of op.now) ≡ true }

@@ -117,7 +117,7 @@ pub(crate) fn is_set(nodes: &mut Nodes, a: &Word) -> Result<Bit, AllocError>
     nonzero(nodes, a)
 }
 
-/// The word `yes` where `which` is not 0, and else `no`.
+/// The word `yes` if `which` is not 0, and else `no`.
 pub(crate) fn choose(
     nodes: &mut Nodes,
     which: &Word,

@@ -19,7 +19,7 @@ pieces_of-skip (b ∷ bs) = by (is_blank b) refl (pieces_of-skip bs)
     by true is others = rw is (others ∙ ap (λ n. pieces_of (drop n (b ∷ bs))) (sym (one_more (prefix_len is_blank bs))))
     by false is others = ap (λ n. pieces_of (drop n (b ∷ bs))) (sym (ap (λ t. cond t (1 + prefix_len is_blank bs) 0) is))
 
--- no blank stands after them
+-- no blank is after them
 blanks_end : (text : List ℕ) (b : ℕ) (bs : List ℕ) → drop (prefix_len is_blank text) text ≡ b ∷ bs → is_blank b ≡ false
 blanks_end [] b bs left = cc
 blanks_end (c ∷ cs) b bs left = by (is_blank c) refl left (blanks_end cs b bs)

@@ -1,4 +1,4 @@
--- One digit more, where a number past the greatest counts as the greatest.
+-- One digit more, if a number past the greatest counts as the greatest.
 use Rattle.std.proofs.Common.{◌≡◌, ℕ, ◌+◌, ◌*◌, min, arith}
 use Rattle.std.proofs.lemmas.Bool.Decides.{nat_tests}
 

@@ -1,14 +1,14 @@
--- The pieces of a text that stand between blanks.
+-- The pieces of a text between blanks.
 
 use Rattle.std.specs.Prelude.{ℕ, Bool, true, if◌then◌else◌, List, [], ◌∷◌}
 use Rattle.ba_bytes.specs.Classes.{is_blank}
 
--- no piece goes on with these bytes
+-- the piece before these bytes ends there
 abbrev pub ends_piece : List ℕ → Bool
 ends_piece [] = true
 ends_piece (b ∷ bs) = is_blank b
 
--- a byte before the first piece, and one of it
+-- the byte added in front of the first piece, or a first piece of its own
 abbrev pub with_first : ℕ → List (List ℕ) → List (List ℕ)
 with_first b [] = (b ∷ []) ∷ []
 with_first b (piece ∷ pieces) = (b ∷ piece) ∷ pieces

@@ -25,14 +25,14 @@ pub fn is_letter(byte: u8) -> bool
     byte.is_ascii_alphabetic() || byte == b'_'
 }
 
-/// Whether the byte may stand in a word: a letter, an underscore or a decimal digit.
+/// Whether the byte may be in a word: a letter, an underscore or a decimal digit.
 pub fn is_word_byte(byte: u8) -> bool
     ensures { result ≡ is_word_byte byte }
 {
     is_letter(byte) || byte.is_ascii_digit()
 }
 
-/// Whether the byte may stand in a number: one of a word, or a dot.
+/// Whether the byte may be in a number: one of a word, or a dot.
 pub fn is_number_byte(byte: u8) -> bool
     ensures { result ≡ is_number_byte byte }
 {

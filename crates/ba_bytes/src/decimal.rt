@@ -22,7 +22,7 @@ pub fn are_digits(piece: &[u8]) -> bool
     !piece.is_empty() && all_digits(piece)
 }
 
-/// The number that decimal digits write, or 2^64 - 1 where it is past that.
+/// The number that decimal digits write, or 2^64 - 1 if that is smaller.
 fn digits_value(digits: &[u8]) -> u64
     ensures { result ≡ min (digits_value 10 digits.now) (2 ^ 64 - 1) }
 {
@@ -35,8 +35,8 @@ fn digits_value(digits: &[u8]) -> u64
     value
 }
 
-/// The number that a piece of one or more decimal digits writes, or 2^64 - 1 where it is past that; `None` for every
-/// other piece.
+/// The number that one or more decimal digits write, or 2^64 - 1 if that is smaller. Any other piece gives
+/// `None`.
 pub fn natural(piece: &[u8]) -> Option<u64>
     ensures { result ≡ option_map (λ n. min n (2 ^ 64 - 1)) (natural_of piece.now) }
 {
@@ -47,14 +47,14 @@ pub fn natural(piece: &[u8]) -> Option<u64>
     }
 }
 
-/// The number of 64 bits nearest to this one.
+/// The number of type `i64` nearest to this one.
 fn positive(number: u64) -> i64
     ensures { result ≡ nearest (pos number) }
 {
     i64::try_from(number).unwrap_or(i64::MAX)
 }
 
-/// The number of 64 bits nearest to minus this one.
+/// The number of type `i64` nearest to minus this one.
 fn negative(number: u64) -> i64
     ensures { result ≡ nearest (neg_ℤ (pos number)) }
 {
@@ -65,8 +65,8 @@ fn negative(number: u64) -> i64
     }
 }
 
-/// The number that a piece of one or more decimal digits writes, which may have a minus sign before them, or the
-/// nearest of -2^63 to 2^63 - 1 where it is past these; `None` for every other piece.
+/// The number that one or more decimal digits write, with or without a minus sign before them. A number
+/// outside -2^63 to 2^63 - 1 gives the nearest one inside. Any other piece gives `None`.
 pub fn decimal(piece: &[u8]) -> Option<i64>
     ensures { result ≡ option_map nearest (decimal_of piece.now) }
 {

@@ -1,4 +1,4 @@
-//! Bytes of texts: their classes, their lines, the pieces that stand between blanks, and decimal numbers.
+//! Scanning of bytes: character classes, lines of a text, pieces between blanks, and decimal numbers.
 #![tactic(auto)]
 
 pub mod classes;

@@ -7,8 +7,8 @@ ghost use Rattle.ba_bytes.specs.Lines.{lines_left, lines_of};
 use crate::classes::is_line_end;
 use std::marker::Model;
 
-/// The lines of a text, read one after the other: each without the line feed that ends it, and last what stands after
-/// the last line feed. Contracts see the list of those that are left.
+/// The lines of a text, read one after the other, each without the line feed that ends it. What follows the
+/// last line feed is a line too. A contract sees the list of the lines not yet read.
 #[derive(Drop)]
 pub struct Lines<'a> {
     rest: Option<&'a [u8]>,
@@ -31,7 +31,7 @@ impl<'a> Lines<'a> {
         Lines { rest: Some(text) }
     }
 
-    /// The next line without its end, if one is left.
+    /// The next line without its line feed, or `None` if all are read.
     pub fn next_line(&mut self) -> Option<&'a [u8]>
         ensures { MatchOption result ((self.old ≡ []) × (self.new ≡ []))
             (λ line. self.old ≡ line.now ∷ self.new) }
@@ -43,7 +43,7 @@ impl<'a> Lines<'a> {
     }
 }
 
-/// The first line of a text, and what stands behind its line feed if it has one.
+/// The first line of a text, and what follows its line feed if it has one.
 fn parted(text: &[u8]) -> (&[u8], Option<&[u8]>)
     ensures { lines_of text.now
         ≡ result.0.now ∷ lines_left (option_map (λ rest. rest.now) result.1) }
@@ -54,7 +54,7 @@ fn parted(text: &[u8]) -> (&[u8], Option<&[u8]>)
     }
 }
 
-/// Where the first line feed stands, if there is one.
+/// The index of the first line feed, if there is one.
 pub fn feed_in(text: &[u8]) -> Option<usize>
     ensures place { result ≡ position is_line_end text.now }
     ensures within { IfSome result (λ place. place < length text.now) }

@@ -5,8 +5,8 @@ ghost use Rattle.ba_bytes.specs.Numbers.{number_in};
 
 use crate::decimal::natural;
 
-/// The number that a text of at most so many decimal digits writes, where it is in this range; `None` for
-/// every other text.
+/// The number that a text of one to `digits` decimal digits writes, if it is from `least` to `most`. Any
+/// other text gives `None`.
 pub fn number_in(text: &[u8], digits: usize, least: u32, most: u32) -> Option<u32>
     ensures value { result ≡ number_in digits least most text.now }
     ensures within { IfSome result (λ number. number ≤ most) }

@@ -1,4 +1,4 @@
-//! The pieces of a text that stand between blanks.
+//! The pieces of a text between blanks.
 
 ghost use Rattle.std.specs.Prelude.{◌≡◌, ◌≤◌, ◌∷◌, [], not, length, MatchOption};
 ghost use Rattle.std.specs.List.{prefix_len};
@@ -8,7 +8,8 @@ ghost use Rattle.ba_bytes.specs.Pieces.{pieces_of};
 use crate::classes::is_blank;
 use std::marker::Model;
 
-/// The pieces of a text, read one after the other. Contracts see the list of those that are left.
+/// The pieces of a text between blanks, read one after the other. A contract sees the list of the pieces not
+/// yet read.
 #[derive(Drop)]
 pub struct Pieces<'a> {
     rest: &'a [u8],
@@ -31,7 +32,7 @@ impl<'a> Pieces<'a> {
         Pieces { rest: text }
     }
 
-    /// The next piece, if one is left.
+    /// The next piece, or `None` if all are read.
     pub fn next_piece(&mut self) -> Option<&'a [u8]>
         ensures { MatchOption result
             ((self.old ≡ []) × (self.new ≡ []))
@@ -55,7 +56,7 @@ fn blank_count(text: &[u8]) -> usize
     text.iter().take_while(|byte| is_blank(**byte)).count()
 }
 
-/// How many bytes stand before the first blank.
+/// How many bytes are before the first blank.
 fn piece_length(text: &[u8]) -> usize
     ensures count { result ≡ prefix_len (λ b. not (is_blank b)) text.now }
     ensures within { result ≤ length text.now }

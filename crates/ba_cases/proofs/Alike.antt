@@ -65,7 +65,7 @@ module _ (p q : Program) (equal : AreEquivalent p q) where
   sizes_alike bounds =
       ap (λ n. if nat_lt unit_limit n then Some answer.TooLarge else None) (equal.units bounds)
 
-  -- the answer before any search, where those of the inputs and of the runs are the same
+  -- the answer before any search, if those of the inputs and of the runs are the same
   pub at_once_alike : (inputs others : Option Answer) (weights : List ℕ) (bounds : Bounds)
       (runs ends : Option Answer) → inputs ≡ others → runs ≡ ends →
       at_once inputs weights bounds runs p ≡ at_once others weights bounds ends q

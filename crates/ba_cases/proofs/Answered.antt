@@ -24,7 +24,7 @@ pub stop_no_fault : (s : Stop) (result : Result Answer SearchError) → IsAnswer
 stop_no_fault (stop.Answered a) result answered failed = let both = sym answered ∙ failed in cc
 stop_no_fault stop.Memory result answered failed = let both = sym answered ∙ failed in cc
 
--- whose one error is want of memory
+-- whose one error is out of memory
 pub stop_errs : (s : Stop) (result : Result Answer SearchError) → IsAnswered s result →
     IfErr result (λ failure. failure ≡ error.Memory)
 stop_errs (stop.Answered a) result answered =

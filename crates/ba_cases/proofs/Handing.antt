@@ -19,7 +19,7 @@ hands_as d t m u over logs h =
     (subst (λ (o : Option (List Basis)). Hands d (record m { over = o }) u) over h) in
     record { over = by.over; logs = by.logs }
 
--- one more behind the others
+-- one more after the others
 pub hands_more : (ds : List Derivation) (d : Derivation) (t m u : Told) → HandsAll ds t m → Hands d m u →
     HandsAll (ds ++ d ∷ []) t u
 hands_more [] d t m u none h = hands_one d t u (hands_as d t m u none.0 none.1 h)

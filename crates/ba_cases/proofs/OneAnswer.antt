@@ -41,7 +41,7 @@ module _ (source : List ℕ) (first : Program → Option Answer) (one : IsOfMean
       let e = sym none ∙ one p q (meaning_same source p q spells spelled) ∙ told in cc
 
   module _ (row : Program → List Derivation → Answer → Type 0) where
-    -- the answers agree where those of searches do
+    -- the answers agree if those of searches do
     pub answers_agree : (runs : Bool) (h k : List Derivation) (a b : Answer) →
         ((p q : Program) → Spells source p → Spells source q → AreEquivalent p q → row p h a → row q k b →
         Agree runs a b) →
@@ -55,7 +55,7 @@ module _ (source : List ℕ) (first : Program → Option Answer) (one : IsOfMean
     answers_agree runs h k a b agree (by_search p spells undecided found) (by_search q spelled none holds) =
         agree p q spells spelled (meaning_same source p q spells spelled) found holds
 
-    -- where the program of a text has no answer at once, its answer is of a search
+    -- if the program of a text has no answer at once, its answer is of a search
     pub is_of_search : (p : Program) (h : List Derivation) (a : Answer) → Spells source p → first p ≡ None →
         ((q : Program) → Spells source q → row q h a → IsOfSearch a) → IsAnswerOf source first row h a →
         IsOfSearch a

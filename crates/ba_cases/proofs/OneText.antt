@@ -20,7 +20,7 @@ use Rattle.ba_tree_laws.proofs.FileRows.{same_faults}
 use Rattle.ba_typing.proofs.FaultOrder.{connected}
 use Rattle.ba_tree_laws.proofs.Equivalence.{equivalent}
 use Rattle.ba_tree_laws.proofs.OneProgram.{clean, has_program, one_of_text}
-use Rattle.ba_cases.specs.Programs.{IsFault, ill_typed, lexical_fault, no_file, no_main, no_tokens, place_at, too_deep, typing_fault}
+use Rattle.ba_cases.specs.Programs.{IsFault, ill_typed, lexical_fault, no_file, no_main, no_tokens, position_of_token, too_deep, typing_fault}
 use Rattle.ba_answers.specs.declared.fault.Cause.TheVariants as cause
 use Rattle.ba_answers.specs.declared.fault.Fault.{Fault}
 
@@ -41,8 +41,11 @@ record IsFaultIn (marks : List Mark) (fault : Fault) : Type 0 where
 
 -- of tokens of which the grammar says this
 abbrev IsFaultBy : List Token → Verdict → Fault → Type 0
-IsFaultBy tokens (syntax_at k) fault = fault ≡ record { cause = cause.Syntax; at = place_at tokens k }
-IsFaultBy tokens (deep_at k) fault = fault ≡ record { cause = cause.TooDeep; at = place_at tokens k }
+IsFaultBy tokens (syntax_at k) fault = fault ≡ record {
+  cause = cause.Syntax;
+  at = position_of_token tokens k;
+}
+IsFaultBy tokens (deep_at k) fault = fault ≡ record { cause = cause.TooDeep; at = position_of_token tokens k }
 IsFaultBy tokens (parsed marks) fault = IsFaultIn marks fault
 
 record IsLexical (source : List ℕ) (fault : Fault) : Type 0 where

@@ -1,5 +1,5 @@
--- THE ANSWER BEFORE ANY SEARCH: the first that is there of four. These are the refusals of the inputs, of the weights
--- and of the program for its size, and what its runs as written come to. It says nothing of a world.
+-- THE ANSWER BEFORE ANY SEARCH: the first of four that is there. These are the refusals of the inputs, of the
+-- weights and of the program for its size, and the end of its runs as written. It says nothing of a world.
 
 use Rattle.std.specs.Prelude.{◌≡◌, ℕ, nat_lt, if◌then◌else◌, Bool, true, false, Option, None, Some, option_map, List, [], ◌∷◌, Result, Ok, Err}
 use Rattle.ba_inputs.specs.Weights.{bad_line, weights_in}
@@ -31,11 +31,11 @@ use Rattle.ba_cases.specs.declared.stop.Stop.{Stop}
 use Rattle.ba_cases.specs.declared.stop.Stop.TheVariants as stop
 use Rattle.ba_cases.specs.declared.texts.Texts.{Texts}
 
--- how many units a program may have
+-- the limit on units of a program
 abbrev pub unit_limit : ℕ
 unit_limit = 20000
 
--- THE FOUR ANSWERS, each where there is one
+-- THE FOUR ANSWERS, each if there is one
 
 -- the fault of an input as an answer names it
 abbrev pub fault_of : TextFault → InputFault
@@ -47,20 +47,20 @@ fault_of inputs.WrongCount = fault.WrongCount
 abbrev pub input_refusal : Program → List ℕ → Option Answer
 input_refusal p text = option_map (λ f. answer.BadInput file.Input (fault_of f) None) (input_fault p text)
 
--- of a text as weights
+-- the refusal of a text as weights
 abbrev pub weights_refusal : List ℕ → Option Answer
 weights_refusal text = option_map (λ line. answer.BadWeights line) (bad_line text)
 
--- of a program that is too large
+-- the refusal of a program that is too large
 abbrev pub size_refusal : Program → Bounds → Option Answer
 size_refusal p bounds = if nat_lt unit_limit (units_of p bounds) then Some answer.TooLarge else None
 
--- where a statement begins
+-- the position of a statement
 abbrev pub position_of : Program → StmtId → Option At
 position_of p stmt = option_map (λ (info : StmtInfo). info.at) (info_of p stmt)
 
--- what a run comes to that was to fail: it doesn't, or goes past a bound. If there are several inputs, the line of
--- this one is named
+-- The answer for a run that had to fail: it doesn't, or exceeds a bound. If there are several inputs, the
+-- line of this one is named.
 abbrev pub unfailing : Program → Option ℕ → Outcome → Option Answer
 unfailing p line outcome.Done = Some (answer.NotFailing line)
 unfailing p line (outcome.Beyond stmt) = option_map (λ at. answer.BeyondBound at line) (position_of p stmt)
@@ -78,46 +78,54 @@ first_answer [] = None
 first_answer (None ∷ others) = first_answer others
 first_answer (Some a ∷ others) = Some a
 
+-- the answer before any search: the first of the refusals of inputs, weights and size, and of the ends of
+-- runs
 abbrev pub at_once : Option Answer → List ℕ → Bounds → Option Answer → Program → Option Answer
 at_once inputs weights bounds runs p =
     first_answer (inputs ∷ weights_refusal weights ∷ size_refusal p bounds ∷ runs ∷ [])
 
--- of one input, whose run is to fail
+-- the answer for one input, whose run has to fail
 
+-- the input that a text writes
 abbrev pub input_of : Program → List ℕ → Input
 input_of p text = record { values = input_values p text }
 
+-- the weights that the texts give
 abbrev pub weights_of : Program → Texts → WeightList
 weights_of p x = weights_in p x.weights
 
+-- how the run as written ends
 abbrev pub run_in : Bounds → Texts → Program → Outcome
 run_in bounds x p = plain_run p (input_of p x.input) bounds
 
+-- the answer before any search to a program with one input
 abbrev pub case_answer : Bounds → Texts → Program → Option Answer
 case_answer bounds x p =
     at_once (input_refusal p x.input) x.weights bounds (unfailing p None (run_in bounds x p)) p
 
--- A TEXT HAS AN ANSWER AT ONCE: it spells no program; or it spells one, which has this answer
+-- A TEXT HAS AN ANSWER AT ONCE: it spells no program; or it spells a program that has this answer
 pub data IsAtOnce (source : List ℕ) (first : Program → Option Answer) (a : Answer) : Type 0 where
   no_program : (f : Fault) → IsFault source f → a ≡ answer.BadProgram f → IsAtOnce source first a
   of_program : (p : Program) → Spells source p → first p ≡ Some a → IsAtOnce source first a
 
--- WHAT A STOP TELLS: the answer; want of memory tells nothing
+-- WHAT A STOP SAYS: the answer; out of memory says nothing
 
+-- a stop with an answer is due; one out of memory says nothing
 abbrev pub Tells : Stop → Option Answer → Type 0
 Tells (stop.Answered a) due = due ≡ Some a
 Tells stop.Memory due = Unit {0}
 
+-- a stop with an answer is the answer at once of the program's text; one out of memory says nothing
 abbrev pub IsStopped : List ℕ → (Program → Option Answer) → Stop → Type 0
 IsStopped source first (stop.Answered a) = IsAtOnce source first a
 IsStopped source first stop.Memory = Unit {0}
 
--- that the text spells no program
+-- the stop says that the text spells no program
 abbrev pub IsNoProgram : List ℕ → Stop → Type 0
 IsNoProgram source (stop.Answered a) = (f : Fault) × IsFault source f × (a ≡ answer.BadProgram f)
 IsNoProgram source stop.Memory = Unit {0}
 
--- what a call answers that stops
+-- the answer of a call that stops
 abbrev pub IsAnswered : Stop → Result Answer SearchError → Type 0
 IsAnswered (stop.Answered a) result = result ≡ Ok a
 IsAnswered stop.Memory result = result ≡ Err error.Memory

@@ -10,8 +10,7 @@ use Rattle.ba_cases.specs.AtOnce.{case_answer, input_of}
 use Rattle.ba_cases.specs.declared.cases.Case.{Case}
 use Rattle.ba_cases.specs.declared.texts.Texts.{Texts}
 
--- the program that a text spells, the input that one writes for it, and the weights of its statements; there is
--- no answer at once
+-- the program, the input and the weights that the texts write, if there is no answer at once
 pub record IsCaseOf (bounds : Bounds) (x : Texts) (c : Case) : Type 0 where
   pub spells : Spells x.program c.program
   pub input : c.input ≡ input_of c.program x.input

@@ -1,4 +1,4 @@
--- WHY A TEXT SPELLS NO PROGRAM; which program it spells, `Spells` of `ba_types` says.
+-- WHY A TEXT SPELLS NO PROGRAM. Which program it spells is `Spells` of `ba_tree_laws`.
 
 use Rattle.std.specs.Prelude.{◌≡◌, ℕ, Option, None, Some, option_map, Ok, Err, List, [], slice_get}
 use Rattle.ba_numbers.specs.declared.ids.At.{At}
@@ -24,7 +24,7 @@ use Rattle.ba_answers.specs.declared.fault.Fault.{Fault}
 
 -- The first stage that refuses it, and the first fault of that stage
 
--- the fault that an error of the tokens is; none for want of memory
+-- the fault of an error of the tokens; none if memory ran out
 abbrev pub lexical_fault : LexError → Option Fault
 lexical_fault (lexical.BadByte at) = Some (record { cause = cause.BadByte; at = Some at })
 lexical_fault (lexical.BadToken at) = Some (record { cause = cause.BadToken; at = Some at })
@@ -36,18 +36,18 @@ lexical_fault (lexical.TooMany at) = Some (record { cause = cause.TooMany; at = 
 lexical_fault lexical.Memory = None
 
 -- the position of a token, counted from 0; none past the last
-abbrev pub place_at : List Token → ℕ → Option At
-place_at tokens number = option_map (λ (t : Token). t.at) (slice_get tokens number)
+abbrev pub position_of_token : List Token → ℕ → Option At
+position_of_token tokens number = option_map (λ (t : Token). t.at) (slice_get tokens number)
 
--- the fault that an error of the tree of these tokens is; none for want of memory
+-- the fault of an error of the tree of these tokens; none if memory ran out
 abbrev pub tree_fault : List Token → ParseError → Option Fault
 tree_fault tokens (syntactic.Syntax number) =
-    Some (record { cause = cause.Syntax; at = place_at tokens number })
+    Some (record { cause = cause.Syntax; at = position_of_token tokens number })
 tree_fault tokens (syntactic.TooDeep number) =
-    Some (record { cause = cause.TooDeep; at = place_at tokens number })
+    Some (record { cause = cause.TooDeep; at = position_of_token tokens number })
 tree_fault tokens syntactic.Memory = None
 
--- the fault that a fault of typing is, and that an error of typing is; none for want of memory
+-- the cause of a fault of typing, and of an error of typing; none if memory ran out
 abbrev pub typing_cause : TypeCause → Cause
 typing_cause typing.UnknownName = cause.UnknownName
 typing_cause typing.Twice = cause.Twice
@@ -58,9 +58,11 @@ typing_cause typing.BreakOutside = cause.BreakOutside
 typing_cause typing.CallInIndex = cause.CallInIndex
 typing_cause typing.Limit = cause.Limit
 
+-- a fault of typing
 abbrev pub typing_fault : TypeFault → Fault
 typing_fault fault = record { cause = typing_cause fault.cause; at = Some fault.at }
 
+-- the fault that an error of the type checker is, None out of memory
 abbrev pub type_fault : TypeError → Option Fault
 type_fault (type.UnknownName at) = Some (record { cause = cause.UnknownName; at = Some at })
 type_fault (type.Twice at) = Some (record { cause = cause.Twice; at = Some at })
@@ -79,6 +81,7 @@ pub record IsTreeOf (source : List ℕ) (tree : RawProgram) : Type 0 where
   pub lexed : tokens_of source ≡ Ok tokens
   pub parsed : IsParsed tokens (file_marks tree)
 
+-- the text spells no program, and this is why: the first error of the first stage that refuses it
 pub data IsFault (source : List ℕ) (fault : Fault) : Type 0 where
   -- the text has no tokens, and this is its first error
   no_tokens : (error : LexError) → tokens_of source ≡ Err error → lexical_fault error ≡ Some fault
@@ -86,21 +89,21 @@ pub data IsFault (source : List ℕ) (fault : Fault) : Type 0 where
   -- no file's tokens begin with its tokens up to this one, or they end too early
   no_file : (tokens : List Token) (number : ℕ) → tokens_of source ≡ Ok tokens
       → IsSyntaxError tokens number
-      → fault ≡ record { cause = cause.Syntax; at = place_at tokens number } → IsFault source fault
-  -- this token is the first around which too many constructs are
+      → fault ≡ record { cause = cause.Syntax; at = position_of_token tokens number } → IsFault source fault
+  -- this token is the first with too many constructs around it
   too_deep : (tokens : List Token) (number : ℕ) → tokens_of source ≡ Ok tokens
       → IsTooDeep tokens number
-      → fault ≡ record { cause = cause.TooDeep; at = place_at tokens number } → IsFault source fault
+      → fault ≡ record { cause = cause.TooDeep; at = position_of_token tokens number } → IsFault source fault
   -- its tokens are a file's, and this is the first of the file's faults
   ill_typed : (tree : RawProgram) (first : TypeFault) → IsTreeOf source tree
       → IsFirst (faults_of tree.externals.items) first → fault ≡ typing_fault first
       → IsFault source fault
-  -- the file has no fault but that it defines no `main`
+  -- the only fault of the file is that it defines no `main`
   no_main : (tree : RawProgram) → IsTreeOf source tree → faults_of tree.externals.items ≡ []
       → typed_of tree.externals.items ≡ None → fault ≡ record { cause = cause.NoMain; at = None }
       → IsFault source fault
 
--- the fault is the text's; where there is none, memory was wanting, which tells nothing
+-- the fault is the text's; if there is none, memory ran out, which says nothing
 abbrev pub TellsFault : List ℕ → Option Fault → Type 0
 TellsFault source None = Unit {0}
 TellsFault source (Some fault) = IsFault source fault

@@ -1,5 +1,5 @@
--- THE FILES OF A CALL are read whole, and then their texts come to the answer. Which files they are and what is said of
--- their texts is the mode's.
+-- THE FILES OF A CALL are read whole, and their texts have the answer. Which files these are, and what is
+-- said of their texts, the mode says.
 
 use Rattle.std.specs.Prelude.{◌≡◌, ℕ, Option, None, Some, List, [], ◌∷◌, length, ◌≤◌}
 use Rattle.ba_answers.specs.Limits.{limit}
@@ -24,26 +24,29 @@ files_for program which input weights =
     record { file = file.Program; name = Some program } ∷ record { file = which; name = Some input }
     ∷ record { file = file.Weights; name = weights } ∷ []
 
+-- the texts of program, inputs and weights
 abbrev pub parts_of : Texts → List (List ℕ)
 parts_of x = x.program ∷ x.input ∷ x.weights ∷ []
 
+-- no text is longer than a file may be
 pub record AreShort (x : Texts) : Type 0 where
   pub program : length x.program ≤ limit
   pub input : length x.input ≤ limit
 
--- A FILE WASN'T READ, and this is the answer; want of memory tells nothing
+-- A FILE WASN'T READ, and this is the answer; out of memory says nothing
 pub record IsUnreadAs (files : List Named) (before after : Outside) (a : Answer) : Type 0 where
   pub which : File
   pub error : ReadFileError
   pub stops : StopsAt which error files before after
   pub answers : answer_for which error ≡ Some a
 
+-- a stop with an answer is that of the first file that was not read; one out of memory says nothing
 abbrev pub StopsUnread : List Named → Outside → Outside → Stop → Type 0
 StopsUnread files before after (stop.Answered a) = IsUnreadAs files before after a
 StopsUnread files before after stop.Memory = Unit {0}
 
--- WHAT FILES COME TO: one wasn't read, and this is the answer. Or all were, and their texts come to it by what is
--- read then. These derivations were handed to the sink of steps
+-- THE ANSWER OF FILES. One wasn't read, and this is the answer. Or all were read, and the answer is that of
+-- their texts and of what is read after them. These derivations were handed to the sink of steps.
 pub data FilesComeTo (files : List Named) (row : Texts → Outside → Outside → List Derivation → Answer → Type 0)
     (before after : Outside) (handed : List Derivation) (a : Answer) : Type 0
   where
@@ -51,13 +54,12 @@ pub data FilesComeTo (files : List Named) (row : Texts → Outside → Outside �
     by_texts : (x : Texts) (read : Outside) → AreRead files (parts_of x) before read →
         row x read after handed a → FilesComeTo files row before after handed a
 
--- texts that come to an answer by themselves: no more is read
+-- the texts alone have the answer: nothing more is read
 abbrev pub Unaided : (Texts → List Derivation → Answer → Type 0) → Texts → Outside → Outside →
     List Derivation → Answer → Type 0
 Unaided row x read after handed a = (after ≡ read) × row x handed a
 
--- THE ANSWER THAT IS DUE to files that the world tells: one for their texts; or that one can't be read, or is too
--- long
+-- THE ANSWER THAT IS DUE to told files: an answer of their texts; or that one can't be read, or is too long
 pub data FilesAreDue (files : List Named) (row : Texts → Answer → Type 0) (before : Outside) (a : Answer) :
     Type 0 where
   of_texts : (x : Texts) → TellsAll before files (parts_of x) → row x a → FilesAreDue files row before a

@@ -31,8 +31,8 @@ impl Drop for Case {
     }
 }
 
-/// The case of these texts, if its run as written fails within the bounds. Otherwise the answer before any search, or
-/// out of memory.
+/// The case of these texts, if its run as written fails within the bounds. Else the answer before any search,
+/// or out of memory.
 ///
 /// In this order it reads the program, the input and the weights, counts the units, and runs the program as
 /// written.

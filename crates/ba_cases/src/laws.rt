@@ -9,14 +9,14 @@ ghost use Rattle.ba_tree.specs.declared.run.Bounds.{Bounds};
 ghost use Rattle.ba_tree.specs.declared.run.Input.{Input};
 ghost use Rattle.ba_tree.specs.declared.tree.Program.{Program};
 
-/// Texts with one input have at most one answer before a search.
+/// Law: texts with one input have at most one answer before a search.
 pub fn one_case_answer()
     ensures { (bounds : Bounds) (x : Texts) (a b : Answer)
         → IsAtOnce x.program (case_answer bounds x) a
         → IsAtOnce x.program (case_answer bounds x) b → a ≡ b }
 {}
 
-/// A run as written that has no answer before a search fails: an assertion does, or there is a trap.
+/// Law: a run as written without an answer before a search fails. An assertion fails, or there is a trap.
 pub fn undecided_runs_fail()
     ensures { (p : Program) (i : Input) (bounds : Bounds) (line : Option ℕ)
         → unfailing p line (plain_run p i bounds) ≡ None

@@ -1,4 +1,5 @@
-//! What the texts of a call come to before any search: a program with its input and weights, or an answer.
+//! The front end of a call: from texts to a program with its input and weights, or to an answer before any
+//! search.
 #![tactic(auto)]
 
 mod cases;

@@ -1,4 +1,5 @@
-//! The parts of a call before any search: the input, the weights, the size of the program, and its run as written.
+//! The parts of a call before any search: the input, the weights, the size of the program, and its run as
+//! written.
 
 ghost use Rattle.std.specs.Prelude.{◌≡◌, ◌≢◌, ◌≤◌, true, None, Option, Some, length, IfErr, IfOk, IsSome};
 ghost use Rattle.ba_cases.specs.AtOnce.{Tells, input_of, input_refusal, position_of, size_refusal, unfailing, weights_refusal};
@@ -22,10 +23,10 @@ use ba_tree::tree::Program;
 use ba_units::units;
 use std::alloc::{AllocError, Global};
 
-/// How many units a program may have.
+/// The limit on units of a program.
 const UNIT_LIMIT: u32 = 20000;
 
-/// The input that a text writes for a program; else the refusal of the text, or want of memory.
+/// The input that a text writes for a program. Else the refusal of the text, or out of memory.
 pub fn read_one_input(alloc: Global, program: &Program, text: &[u8]) -> Result<Input, Stop>
     requires { length text.now ≤ limit }
     ensures ok { IfOk result (λ input. input ≡ input_of program.now text.now) }
@@ -47,7 +48,7 @@ pub fn read_one_input(alloc: Global, program: &Program, text: &[u8]) -> Result<I
     }))
 }
 
-/// The weights that a text gives the statements of a program; else the refusal of the text, or want of memory.
+/// The weights that a text gives the statements of a program. Else the refusal of the text, or out of memory.
 pub fn read_weights_of(alloc: Global, program: &Program, text: &[u8]) -> Result<Weights, Stop>
     ensures ok { IfOk result (λ weights. weights.of ≡ weights_in program.now text.now) }
     ensures weighed { IfOk result (λ weights. AreWeightsOf program.now weights.of) }
@@ -61,7 +62,7 @@ pub fn read_weights_of(alloc: Global, program: &Program, text: &[u8]) -> Result<
     }
 }
 
-/// Whether a program isn't too large; else its refusal.
+/// Succeeds if a program isn't too large. Else its refusal, or out of memory.
 pub fn check_size(program: &Program, bounds: Bounds) -> Result<(), Stop>
     requires { are_bounds bounds ≡ true }
     ensures ok { IfOk result (λ _. size_refusal program.now bounds ≡ None) }
@@ -75,7 +76,7 @@ pub fn check_size(program: &Program, bounds: Bounds) -> Result<(), Stop>
 
 /// The outcome of the run as written.
 ///
-/// The one error is want of memory.
+/// The only error is out of memory.
 pub fn plain_run(
     alloc: Global,
     program: &Program,
@@ -92,7 +93,7 @@ pub fn plain_run(
     run(alloc, program, input, bounds, &nothing, &[])
 }
 
-/// Where a statement of the program begins.
+/// The position of a statement of the program.
 pub fn position_of(program: &Program, stmt: StmtId) -> At
     requires there { IsSome (info_of program.now stmt) }
     ensures { position_of program.now stmt ≡ Some result }
@@ -100,8 +101,8 @@ pub fn position_of(program: &Program, stmt: StmtId) -> At
     program.statements.as_slice()[stmt.0 as usize - 1].at
 }
 
-/// Whether a run that ends so fails. Otherwise the answer: it doesn't fail, or goes past a bound. If there are
-/// several inputs, the line of this one is named.
+/// Succeeds if a run with this outcome fails. Else the answer: the run doesn't fail, or exceeds a bound. If
+/// there are several inputs, the line of this one is named.
 pub fn check_failing(program: &Program, line: Option<u64>, outcome: Outcome) -> Result<(), Stop>
     requires named { NamesStatement program.now outcome }
     ensures ok { IfOk result (λ _. unfailing program.now line outcome ≡ None) }

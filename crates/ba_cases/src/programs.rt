@@ -3,7 +3,7 @@
 ghost use Rattle.std.specs.Prelude.{◌≡◌, ◌≤◌, length, IfOk, IfErr};
 ghost use Rattle.ba_tree_laws.specs.Spelling.{Spells};
 ghost use Rattle.ba_cases.specs.AtOnce.{IsNoProgram};
-ghost use Rattle.ba_cases.specs.Programs.{TellsFault, lexical_fault, place_at, tree_fault, type_fault};
+ghost use Rattle.ba_cases.specs.Programs.{TellsFault, lexical_fault, position_of_token, tree_fault, type_fault};
 ghost use Rattle.ba_answers.specs.Limits.{limit};
 
 use crate::stop::Stop;
@@ -19,7 +19,7 @@ use ba_types::check;
 use ba_typing::TypeError;
 use std::alloc::Global;
 
-/// The fault that an error of the tokens is; none for want of memory.
+/// The fault of an error of the tokens; none if memory ran out.
 fn lexical_fault(error: LexError) -> Option<Fault>
     ensures { result ≡ lexical_fault error }
 {
@@ -36,30 +36,30 @@ fn lexical_fault(error: LexError) -> Option<Fault>
 }
 
 /// The position of a token, counted from 0; none past the last.
-fn place_at(tokens: &[Token], number: usize) -> Option<At>
-    ensures { result ≡ place_at tokens.now number }
+fn position_of_token(tokens: &[Token], number: usize) -> Option<At>
+    ensures { result ≡ position_of_token tokens.now number }
 {
     tokens.get(number).map(|token| token.at)
 }
 
-/// The fault that an error of the tree of these tokens is; none for want of memory.
+/// The fault of an error of the tree of these tokens; none if memory ran out.
 fn tree_fault(tokens: &[Token], error: ParseError) -> Option<Fault>
     ensures { result ≡ tree_fault tokens.now error }
 {
     match error {
         ParseError::Syntax(number) => Some(Fault {
             cause: Cause::Syntax,
-            at: place_at(tokens, number),
+            at: position_of_token(tokens, number),
         }),
         ParseError::TooDeep(number) => Some(Fault {
             cause: Cause::TooDeep,
-            at: place_at(tokens, number),
+            at: position_of_token(tokens, number),
         }),
         ParseError::Memory => None,
     }
 }
 
-/// The fault that an error of typing is; none for want of memory.
+/// The fault of an error of typing; none if memory ran out.
 fn type_fault(error: TypeError) -> Option<Fault>
     ensures { result ≡ type_fault error }
 {
@@ -80,7 +80,7 @@ fn type_fault(error: TypeError) -> Option<Fault>
     }
 }
 
-/// The program that a text spells; else its fault, or none for want of memory.
+/// The program that a text spells; else its fault, or none if memory ran out.
 fn spelled_by(alloc: Global, source: &[u8]) -> Result<Program, Option<Fault>>
     requires { length source.now ≤ limit }
     ensures ok { IfOk result (λ program. Spells source.now program) }
@@ -100,7 +100,7 @@ fn spelled_by(alloc: Global, source: &[u8]) -> Result<Program, Option<Fault>>
     }
 }
 
-/// The program that a text spells; else the refusal of the text, or want of memory.
+/// The program that a text spells; else the refusal of the text, or out of memory.
 pub fn read_program(alloc: Global, source: &[u8]) -> Result<Program, Stop>
     requires { length source.now ≤ limit }
     ensures ok { IfOk result (λ program. Spells source.now program) }

@@ -1,4 +1,4 @@
-//! Why a call goes no further.
+//! Why a call stops.
 
 ghost use Rattle.ba_cases.specs.AtOnce.{IsAnswered};
 
@@ -6,7 +6,7 @@ use ba_answers::answers::Answer;
 use ba_search::SearchError;
 use std::alloc::AllocError;
 
-/// Why a call goes no further with its texts: it comes to this answer, or there was no memory.
+/// Why a call stops at its texts: it has this answer, or memory ran out.
 #[derive(Drop)]
 pub enum Stop {
     Answered(Answer),
@@ -25,7 +25,7 @@ impl From<AllocError> for Stop {
 }
 
 impl Stop {
-    /// The answer of the call, or that there was no memory.
+    /// The answer of the call, or out of memory.
     pub fn answer(self) -> Result<Answer, SearchError>
         ensures { IsAnswered self result }
     {

@@ -15,8 +15,8 @@ use ba_items::Items;
 use ba_world::World;
 use std::alloc::Global;
 
-/// The texts of a program, of its input or inputs, and of its weights. Where no weights are named, their text
-/// is empty.
+/// The texts of a program, of its input or inputs, and of its weights. If no weights are named, their text is
+/// empty.
 pub struct Texts {
     pub program: Items<u8>,
     pub input: Items<u8>,
@@ -58,7 +58,7 @@ pub fn files_for<'a>(
     ]
 }
 
-/// The same name once more.
+/// A copy of the name.
 fn same_name<'a>(name: &Option<Text<'a>>) -> Option<Text<'a>>
     ensures { result ≡ name.now }
 {
@@ -89,7 +89,8 @@ fn texts_of(texts: Vec<Items<u8>>) -> Texts
 }
 
 impl Texts {
-    /// Reads the files of a program, of its input or inputs, and of its weights, each whole and in this order.
+    /// Reads the files of a program, of its input or inputs, and of its weights, each whole and in this
+    /// order.
     pub fn read<W: World>(alloc: Global, world: &mut W, files: &[Named]) -> Result<Texts, Stop>
         requires { length files.now ≡ 3 }
         ensures ok { IfOk result (λ texts.

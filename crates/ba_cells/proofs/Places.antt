@@ -14,7 +14,7 @@ use Rattle.ba_words.proofs.Digits.{digit_small}
 use Rattle.ba_words.proofs.Places.{are_bits-extends, low_number-extends}
 use Rattle.ba_words.proofs.Circuits.{HasValue-same, low_number_below, low_number-two_more}
 use Rattle.ba_words.proofs.Shapes.{number-split}
-use Rattle.ba_cells.specs.Cells.{cell_at, AreCellsOf, IsCellAt, IsCellRead, place_read, Spells, IsGrid}
+use Rattle.ba_cells.specs.Cells.{cell_at, AreCellsOf, IsCellAt, IsCellRead, index_read, Spells, IsGrid}
 
 pub cells-extends : (old new : List Node) (cells : List (List Bit)) → Extends old new →
     AreCellsOf old cells → AreCellsOf new cells
@@ -29,7 +29,7 @@ is_equal a b same = grind (arith, nat_tests)
 is_apart : (a b : ℕ) → a ≢ b → (a == b) ≡ false
 is_apart a b apart = grind (arith, nat_tests)
 
--- a number is another where its row and its column are
+-- a number is another if its row and its column are
 pub in_grid : (width m place : ℕ) → 0 < width →
     ((m / width == place / width) && (m % width == place % width)) ≡ (m == place)
 in_grid width m place some =
@@ -267,19 +267,19 @@ column_at nodes index rows columns cells width place grid =
 
 -- ---- the place that is read
 
-pub read-within : (cells index : ℕ) → index < cells → place_read cells index ≡ index
-unfolding place_read
+pub read-within : (cells index : ℕ) → index < cells → index_read cells index ≡ index
+unfolding index_read
 read-within cells index within =
     let test : nat_lt index cells ≡ true = grind (arith, nat_tests) in
     ap (λ b. if b then index else 0) test
 
-pub read-beyond : (cells index : ℕ) → cells ≤ index → place_read cells index ≡ 0
-unfolding place_read
+pub read-beyond : (cells index : ℕ) → cells ≤ index → index_read cells index ≡ 0
+unfolding index_read
 read-beyond cells index past =
     let test : nat_lt index cells ≡ false = grind (arith, nat_tests) in
     ap (λ b. if b then index else 0) test
 
-pub read-one : (index : ℕ) → place_read 1 index ≡ 0
+pub read-one : (index : ℕ) → index_read 1 index ≡ 0
 read-one index =
     elim (cases_lt index 1) [
       | inl below ↦ read-within 1 index below ∙ omega arith
@@ -288,22 +288,22 @@ read-one index =
 
 -- one cell more
 pub read-more : {A : Type 0} (at : ℕ → A) (cells index : ℕ) → 0 < cells →
-    (if index == cells then at cells else at (place_read cells index)) ≡ at (place_read (cells + 1) index)
+    (if index == cells then at cells else at (index_read cells index)) ≡ at (index_read (cells + 1) index)
 read-more at cells index some =
     elim (cases_lt index cells) [
       | inl below ↦
           let other : (index == cells) ≡ false = grind (arith, nat_tests) in
-          ap (λ b. if b then at cells else at (place_read cells index)) other
+          ap (λ b. if b then at cells else at (index_read cells index)) other
           ∙ ap at (read-within cells index below ∙ sym (read-within (cells + 1) index (omega arith)))
       | inr past ↦ elim (cases_lt cells index) [
         | inl above ↦
             let other : (index == cells) ≡ false = grind (arith, nat_tests) in
-            ap (λ b. if b then at cells else at (place_read cells index)) other
+            ap (λ b. if b then at cells else at (index_read cells index)) other
             ∙ ap at (read-beyond cells index past ∙ sym (read-beyond (cells + 1) index (omega arith)))
         | inr here ↦
             let same : index ≡ cells = omega arith in
             let test : (index == cells) ≡ true = grind (arith, nat_tests) in
-            ap (λ b. if b then at cells else at (place_read cells index)) test
+            ap (λ b. if b then at cells else at (index_read cells index)) test
             ∙ ap at (sym same ∙ sym (read-within (cells + 1) index (omega arith)))
       ]
     ]
@@ -321,7 +321,7 @@ read_in_range old new cells index word long few at free within =
     (omega arith) in
     at free
     ∙ ap (λ k. number_of free old (cell_at cells k))
-    (ap (place_read (length cells)) same ∙ read-within (length cells) n within)
+    (ap (index_read (length cells)) same ∙ read-within (length cells) n within)
   where
     remainder : (n l h : ℕ) → n ≡ l + 2 ^ 8 * h → l < 2 ^ 8 → n < 256 → l ≡ n
     remainder n l h split below small = omega arith

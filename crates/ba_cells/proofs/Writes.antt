@@ -72,7 +72,7 @@ low_number-grows free nodes word i j most within =
         let before = by_more k (omega arith) in
         omega arith
 
--- ---- a cell more behind others
+-- ---- a cell more after others
 
 pub pushed_cells : (old new : List Node) (cells pushed : List (List Bit)) (cell : List Bit) → Extends old new →
     pushed ≡ cells ++ cell ∷ [] → AreCellsOf old cells → AreBitsOf new cell → AreCellsOf new pushed

@@ -1,4 +1,4 @@
--- Cells of words, read and written at an index that is a word itself.
+-- Cells of words, read and written at a symbolic index.
 
 use Rattle.std.specs.Prelude.{◌≡◌, ℕ, ◌<◌, ◌==◌, Bool, ◌&&◌, ◌*◌, ◌/◌, ◌%◌, ◌≤◌, nat_lt, List, [], length, slice_index_or, if◌then◌else◌}
 use Rattle.ba_nodes.specs.declared.Bit.{Bit}
@@ -6,7 +6,7 @@ use Rattle.ba_nodes.specs.declared.Node.{Node}
 use Rattle.ba_nodes.specs.Gates.{HasValue}
 use Rattle.ba_words.specs.Words.{number_of, low_number, bit_at, AreBitsOf}
 
--- the cell at a place
+-- the cell at an index
 abbrev pub cell_at : List (List Bit) → ℕ → List Bit
 cell_at cells place = slice_index_or cells place []
 
@@ -14,23 +14,23 @@ cell_at cells place = slice_index_or cells place []
 abbrev pub AreCellsOf : List Node → List (List Bit) → Type 0
 AreCellsOf nodes cells = (place : ℕ) → AreBitsOf nodes (cell_at cells place)
 
--- the word has the number of the cell at the index, wherever that is in range
+-- the word has the number of the cell at the index, for each index in range
 abbrev pub IsCellAt : (index : (ℕ → Bool) → ℕ) → List Node → List (List Bit) → List Node → List Bit → Type 0
 IsCellAt index old cells new word =
     (free : ℕ → Bool) → index free < length cells →
     number_of free new word ≡ number_of free old (cell_at cells (index free))
 
--- the place that is read among so many cells: the first one where the index leads behind the last
-unfoldable pub place_read : (cells index : ℕ) → ℕ
-place_read cells index = if nat_lt index cells then index else 0
+-- the index that is read among this many cells: the first one if the given index is past the last
+unfoldable pub index_read : (cells index : ℕ) → ℕ
+index_read cells index = if nat_lt index cells then index else 0
 
--- the word has the number of the cell that is read at the low 8 bits of the index, whatever they are
+-- the word has the number of the cell at the low 8 bits of the index, for each index
 abbrev pub IsCellRead : List Node → List (List Bit) → (index : List Bit) → List Node → List Bit → Type 0
 IsCellRead old cells index new word = (free : ℕ → Bool) →
-    let place = place_read (length cells) (low_number free old index 8) in
+    let place = index_read (length cells) (low_number free old index 8) in
     number_of free new word ≡ number_of free old (cell_at cells place)
 
--- the cells are the old ones, but that the one at the index is the value where the condition holds
+-- the cells are the old ones, except that the one at the index has the value if the condition holds
 abbrev pub AreWritten : (holds : (ℕ → Bool) → Bool) (index : (ℕ → Bool) → ℕ) → List Node → List (List Bit) →
     List Bit → List Node → List (List Bit) → Type 0
 AreWritten holds index old cells value new written =
@@ -38,12 +38,12 @@ AreWritten holds index old cells value new written =
     number_of free new (cell_at written place) ≡ (if holds free
     && (index free == place) then number_of free old value else number_of free old (cell_at cells place))
 
--- the bits of the numbers below a count tell which of them this number is
+-- the bits tell for each number below a count whether it is this number
 abbrev pub Spells : List Node → List Bit → (count : ℕ) → (number : (ℕ → Bool) → ℕ) → Type 0
 Spells nodes bits count number =
     (n : ℕ) → n < count → HasValue nodes (bit_at bits n) (λ free. number free == n)
 
--- bits of rows and of columns tell where the low 8 bits of an index lead among so many places
+-- bits of rows and columns tell, for each of this many cells, whether the low 8 bits of an index lead to it
 pub record IsGrid (nodes : List Node) (index : List Bit) (cells : ℕ) (rows columns : List Bit) (width : ℕ) :
     Type 0 where
   pub some : 0 < width

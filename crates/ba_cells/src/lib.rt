@@ -1,8 +1,10 @@
-//! Reading and writing one of many words at an index that is a word itself.
+//! Array reads and writes at a symbolic index, as chains of selects.
 //!
-//! Whether the index is a place is one gate, which all reads and writes at this index share: the `and` of its row and
-//! of its column. A read is a chain of selects by these, one select less than there are cells, and a write selects in
-//! each cell. The one error is want of memory, which leaves every bit its value; further gates may have been added.
+//! Whether the index is that of a cell is one gate, the `and` of its row and its column. All reads and writes
+//! at this index share it. A read is a chain of selects by these gates, one fewer than there are cells. A
+//! write selects in each cell.
+//!
+//! The only error is out of memory. It leaves every bit its value; gates may have been added.
 #![tactic(auto)]
 
 ghost use Rattle.std.specs.Prelude.{◌≡◌, ℕ, ◌+◌, ◌*◌, ◌/◌, ◌%◌, ◌<◌, ◌≤◌, ◌^◌, ◌==◌, Bool, ◌&&◌, nat_lt, List, length, IfOk};
@@ -19,14 +21,14 @@ use std::alloc::{AllocError, Global};
 /// How many bits of an index tell 256 cells apart.
 const INDEX_BITS: usize = 8;
 
-/// How many cells have rows of four places, and more have rows of 16.
+/// Up to this many cells have rows of four; more have rows of 16.
 const FEW_CELLS: usize = 64;
 
-/// For each number below 16, a bit that tells whether it is meant.
+/// For each number below 16, a bit that tells whether it is the one.
 type Numbers = [Bit; 16];
 
-/// The cell at the index, by at most 96 gates a cell and 224 besides. Where that is out of range it is the cell at the
-/// low 8 bits of the index, or the first one where these lead behind the last.
+/// The cell at the index, by at most 96 gates a cell and 224 more. For an index out of range it is the cell
+/// at the index's low 8 bits, or the first if these lead past the last.
 pub fn read_cell(nodes: &mut Nodes, cells: &[Word], index: &Word) -> Result<Word, AllocError>
     requires some { 0 < length cells.now }
     requires few { length cells.now ≤ 256 }
@@ -47,8 +49,8 @@ pub fn read_cell(nodes: &mut Nodes, cells: &[Word], index: &Word) -> Result<Word
     Ok(word)
 }
 
-/// The cells with `value` in place of the one at the index, where `when` is true and the index is in range, and
-/// else the same cells, by at most 104 gates a cell and 224 besides.
+/// The cells, with `value` at the index if `when` is true and the index is in range. It takes at most 104
+/// gates a cell and 224 more.
 pub fn write_cell(
     alloc: Global,
     nodes: &mut Nodes,
@@ -84,7 +86,7 @@ pub fn write_cell(
     Ok(written)
 }
 
-/// Whether a bit of the index above those that tell the cells apart is true.
+/// Whether a bit of the index above the low 8 is true.
 fn is_beyond(nodes: &mut Nodes, index: &Word) -> Result<Bit, AllocError>
     requires { AreBitsOf nodes.old index.now }
     ensures { MakesBit nodes.old nodes.new result 24
@@ -98,7 +100,7 @@ fn is_beyond(nodes: &mut Nodes, index: &Word) -> Result<Bit, AllocError>
     Ok(some)
 }
 
-/// Whether the low 8 bits of the index spell this place: its row and its column.
+/// Whether the low 8 bits of the index are this number, by its row and its column.
 fn is_at(
     nodes: &mut Nodes,
     index: &Word,
@@ -120,8 +122,8 @@ fn is_at(
     nodes.and(rows[place / width], columns[place % width])
 }
 
-/// Bits that tell which row and which column the low 8 bits of the index spell, and how many columns there are. Few
-/// cells take the fewest clauses by four columns, many the fewest gates by 16.
+/// Bits that tell row and column of the low 8 bits of the index, and how many columns there are. Few cells
+/// take the fewest clauses with four columns, many the fewest gates with 16.
 fn grid_of(
     nodes: &mut Nodes,
     index: &Word,
@@ -147,7 +149,7 @@ fn grid_of(
     }
 }
 
-/// Which number two bits of the index spell, from this place on.
+/// Which number two bits of the index are, from this bit on.
 fn pair_of(nodes: &mut Nodes, index: &Word, place: usize) -> Result<Numbers, AllocError>
     requires within { place < 31 }
     requires index { AreBitsOf nodes.old index.now }
@@ -167,7 +169,7 @@ fn pair_of(nodes: &mut Nodes, index: &Word, place: usize) -> Result<Numbers, All
     Ok(bits)
 }
 
-/// For each number below `count`, whether `upper` means its fourth part and `lower` what is left.
+/// For each number below `count`, whether `upper` tells its quarter and `lower` the rest.
 fn combined(
     nodes: &mut Nodes,
     upper: &Numbers,

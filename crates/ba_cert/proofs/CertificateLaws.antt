@@ -54,7 +54,7 @@ cut_text h is steps rest all plain =
 
 -- READ AGAIN
 
--- one line more, where others follow
+-- one line more, if others follow
 steps_by-line : (whole : Bool) (line : List ℕ) (lines : List (List ℕ)) → 0 < length lines →
     steps_by whole (line ∷ lines)
     ≡ step_in line >>= (λ step. option_map (λ steps. step ∷ steps) (steps_by whole lines))
@@ -149,7 +149,7 @@ lines_back (line ∷ other ∷ lines) steps e =
     } in
     subst (AreLines (line ∷ other ∷ lines)) m.same read
 
--- a first line, and what is read of the lines behind it
+-- a first line, and what is read of the lines after it
 record IsBehind (wanted : List ℕ) (reading : List (List ℕ) → Option (List CertStep)) (lines : List (List ℕ))
     (steps : List CertStep) : Type 0
   where

@@ -45,7 +45,7 @@ all-flat_map test f P each (x ∷ xs) all =
     all-append test (f x) (flat_map f xs) (each x (All-head P x xs all))
     (all-flat_map test f P each xs (All-tail P x xs all))
 
--- where a test holds, what follows from it does
+-- if a test holds, what follows from it does
 all-then : (test : ℕ → Bool) (P : ℕ → Type 0) → ((b : ℕ) → test b ≡ true → P b) → (bytes : List ℕ) →
     list_all test bytes ≡ true → All P bytes
 all-then test P each bytes e =

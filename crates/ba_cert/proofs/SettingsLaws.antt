@@ -14,7 +14,7 @@ use Rattle.ba_cert.proofs.NumberLaws.{number-back, number-again}
 use Rattle.ba_cert.proofs.PlainLaws.{is_plain, are_plain, decimal-plain, has_no_feed, joined-feedless}
 use Rattle.ba_cert.proofs.StepLaws.{no_more}
 
--- the parts behind the `b`
+-- the parts after the `b`
 number_parts : CertHead → List (List ℕ)
 number_parts h = decimal h.bounds.turns ∷ decimal h.bounds.frames ∷ decimal h.conflicts ∷ decimal h.sets ∷ []
 

@@ -25,7 +25,7 @@ failed-is world.Memory e = cc
 
 -- THE FILE THAT IS WRITTEN
 
--- if its name is told it is this one, and it is told where what is kept under this name is
+-- if its name is told it is this one, and it is told if what is kept under this name is
 pub record IsFollowed (name : List ℕ) (writing kept : Option (List ℕ)) : Type 0 where
   pub named : (other : List ℕ) → writing ≡ Some other → other ≡ name
   pub told : (bytes : List ℕ) → kept ≡ Some bytes → writing ≡ Some name
@@ -168,7 +168,7 @@ some_is : {A : Type 0} (o : Option A) → is_some o ≡ true → (x : A) × (o �
 some_is None e = cc
 some_is (Some x) e = (x, refl)
 
--- what is kept is the text of steps, where it is told
+-- what is kept is the text of steps, if it is told
 pub record IsText (head : CertHead) (bytes : List ℕ) : Type 0 where
   pub steps : List CertStep
   pub text : bytes ≡ text_of head steps

@@ -14,9 +14,9 @@ use std::alloc::{AllocError, Global};
 /// The choices read so far.
 #[derive(Drop)]
 struct Run {
-    /// Those that are complete.
+    /// The complete choices.
     done: Items<Choice>,
-    /// The values of the last one, where it may take more.
+    /// The values of the last one, if it may take more.
     pending: Option<Values>,
 }
 
@@ -62,7 +62,7 @@ impl Run {
     }
 }
 
-/// Reads the choices that all parts left write.
+/// Reads the choices that the remaining parts write.
 pub(crate) fn run_at(alloc: Global, parts: &mut Parts) -> Result<Items<Choice>, CertError>
     ensures { Parses (λ run. run) result (run_at no_choice parts.old) }
 {

@@ -1,4 +1,4 @@
-//! What stands in the lists of a line.
+//! The items of the lists of a line.
 
 ghost use Rattle.std.specs.Prelude.{◌≡◌, ℕ, List, [], Option, decimal, map};
 ghost use Rattle.ba_cert.specs.Text.{ended, literal_text};
@@ -15,22 +15,22 @@ use ba_lits::Lit;
 use ba_text::push_number;
 use std::alloc::{AllocError, Global};
 
-/// What stands in a list of a line: a literal, the number of a clause, or the number of a group.
+/// An item of a list: a literal, the number of a clause, or the number of a group.
 pub(crate) trait Entry: Copy + Drop {
-    // How it is written, as one part.
+    // Its text, as one part.
     ghost spelled: { Self → List ℕ };
 
-    // What a part writes, if it writes one.
+    // The item that a part writes, if it writes one.
     ghost reading: { List ℕ → Option Self };
 
     // The number by which a list ascends.
     ghost number: { Self → ℕ };
 
-    /// Adds the part.
+    /// Appends the part.
     fn push_text(&self, text: &mut Vec<u8>) -> Result<(), AllocError>
         ensures { Adds result text.old text.new (spelled self.now) };
 
-    /// What the part writes, if it writes one.
+    /// The item that the part writes, if it writes one.
     fn of_part(part: &[u8]) -> Option<Self>
         ensures { result ≡ reading part.now };
 
@@ -100,7 +100,7 @@ impl Entry for u32 {
     }
 }
 
-/// Adds the parts of a list, each after a space, and the part `0`.
+/// Appends the parts of a list, each after a space, and the part `0`.
 pub(crate) fn push_list<T: Entry>(items: &[T], text: &mut Vec<u8>) -> Result<(), AllocError>
     ensures { Adds result text.old text.new (spaced (ended (map T.spelled items.now))) }
 {
@@ -111,7 +111,7 @@ pub(crate) fn push_list<T: Entry>(items: &[T], text: &mut Vec<u8>) -> Result<(),
     text.extend_from_slice(b" 0")
 }
 
-/// Reads a list up to the part `0`, which is taken too.
+/// Reads a list up to the part `0`, and takes that too.
 pub(crate) fn list_at<T: Entry>(alloc: Global, parts: &mut Parts) -> Result<Items<T>, CertError>
     ensures { Parses (λ items. (items, parts.new)) result (listed T.reading [] parts.old) }
 {

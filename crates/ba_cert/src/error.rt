@@ -9,7 +9,7 @@ pub enum CertError {
     /// No step has this line.
     #[error("no step has this line")]
     BadLine,
-    /// There was no memory.
+    /// Out of memory.
     #[error("out of memory")]
     Memory,
 }

@@ -2,9 +2,8 @@
 
 use ba_tree::run::Bounds;
 
-/// The settings that a certificate was made with: the bounds of runs, how many conflicts its steps may
-/// hold, and how many least sets may be listed. Where the conflicts are 2^62 or more, no line that is
-/// read names them.
+/// The settings of a certificate: the bounds of runs, the limit on conflicts, and the limit on listed sets.
+/// If the conflicts are 2^62 or more, no line has these settings.
 #[derive(Clone, Copy, Debug, PartialEq, Eq)]
 pub struct CertHead {
     pub bounds: Bounds,

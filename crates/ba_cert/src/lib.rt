@@ -1,8 +1,8 @@
-//! Certificate text: a derivation as a file that a stranger can check.
+//! The text format of proofs (certificates): a derivation as a file that a stranger can check.
 //!
-//! The first two lines name the version and the settings. Each step has a line, and no line is that of
-//! two steps. [`step_text`] writes a line and
-//! [`read_line`] reads one; a [`TextSink`] writes each step into a file of a world as it is made.
+//! The first two lines have the version and the settings. Each step has a line, and no line is that of two
+//! steps. [`step_text`] writes a line and [`read_line`] reads one. A [`TextSink`] writes each step into a
+//! file of a world as it is made.
 #![tactic(auto)]
 
 mod choices;

@@ -7,7 +7,7 @@ ghost use Rattle.ba_cert.specs.Reading.{after_minus, counted_of, group_of, if_be
 use ba_bytes::decimal::natural;
 use ba_lits::Lit;
 
-/// Numbers in a line are below this one, which is 2^62.
+/// The limit on numbers in a line, 2^62: all are below it.
 const LIMIT: u64 = 0x4000_0000_0000_0000;
 
 /// Whether the part is longer than one byte and begins with the digit 0.
@@ -33,7 +33,7 @@ pub(crate) fn number_of(part: &[u8]) -> Option<u64>
     if number < LIMIT { Some(number) } else { None }
 }
 
-/// The same from 1 on: a variable, or the number of a clause.
+/// The same for numbers from 1 on: a variable, or the number of a clause.
 #[tactic(auto, unfolding(crate::specs::Reading::counted_of))]
 pub(crate) fn counted_of(part: &[u8]) -> Option<u64>
     ensures value { result ≡ counted_of part.now }
@@ -74,7 +74,7 @@ pub(crate) fn group_of(part: &[u8]) -> Option<u32>
     if_below_32(counted_of(part)?)
 }
 
-/// What stands after a minus sign, where the part begins with one.
+/// What follows a minus sign, if the part begins with one.
 fn after_minus(part: &[u8]) -> Option<&[u8]>
     ensures { option_map (λ rest. rest.now) result ≡ after_minus part.now }
 {
@@ -84,7 +84,7 @@ fn after_minus(part: &[u8]) -> Option<&[u8]>
     }
 }
 
-/// A literal: its variable, with a minus sign before it where it is negated.
+/// A literal: its variable, with a minus sign before it if it is negated.
 #[tactic(auto, unfolding(crate::specs::Reading::literal_of))]
 pub(crate) fn literal_of(part: &[u8]) -> Option<Lit>
     ensures { result ≡ literal_of part.now }
@@ -95,7 +95,7 @@ pub(crate) fn literal_of(part: &[u8]) -> Option<Lit>
     }
 }
 
-/// A value of a choice: a number, with a minus sign before it where it is negative.
+/// A value of a choice: a number, with a minus sign before it if it is negative.
 #[tactic(auto, unfolding(crate::specs::Reading::value_of))]
 pub(crate) fn value_of(part: &[u8]) -> Option<i64>
     ensures { result ≡ value_of part.now }

@@ -8,8 +8,8 @@ ghost use Rattle.ba_cert.specs.Readers.{Parses};
 use crate::error::CertError;
 use std::marker::Model;
 
-/// The parts of a line, which stand between single spaces, read one after the other. Contracts see
-/// the list of those that are left.
+/// The parts of a line between single spaces, read one after the other. A contract sees the list of the parts
+/// not yet read.
 #[derive(Drop)]
 pub(crate) struct Parts<'a> {
     rest: Option<&'a [u8]>,
@@ -33,7 +33,7 @@ impl<'a> Parts<'a> {
         Parts { rest: Some(line) }
     }
 
-    /// The next part, if one is left.
+    /// The next part, or `None` if all are read.
     pub(crate) fn next_part(&mut self) -> Option<&'a [u8]>
         ensures { self.old ≡ option_map_or (λ part. part.now ∷ self.new) result [] }
     {
@@ -44,7 +44,7 @@ impl<'a> Parts<'a> {
     }
 }
 
-/// Where the first space stands.
+/// The index of the first space.
 fn space_in(line: &[u8]) -> Option<usize>
     ensures place { result ≡ position is_space line.now }
     ensures within { IfSome result (λ place. place < length line.now) }
@@ -52,7 +52,7 @@ fn space_in(line: &[u8]) -> Option<usize>
     line.iter().position(|byte| *byte == b' ')
 }
 
-/// The part that a line begins with, and those after it.
+/// The first part of a line, and those after it.
 fn cut(line: &[u8]) -> (&[u8], Parts<'_>)
     ensures { parts_of line.now ≡ result.0.now ∷ result.1 }
 {
@@ -69,7 +69,7 @@ pub(crate) fn has_more(parts: &mut Parts) -> bool
     parts.next_part().is_some()
 }
 
-/// The one byte of a part that is one byte long.
+/// The only byte of a part that is one byte long.
 fn letter_of(part: &[u8]) -> Option<u8>
     ensures { result ≡ letter_of part.now }
 {

@@ -14,7 +14,7 @@ use ba_lits::Lit;
 use ba_steps::CertStep;
 use std::alloc::Global;
 
-/// A step that was read, where it is good.
+/// The step that was read, if it is good.
 fn if_good(good: bool, step: CertStep) -> Result<CertStep, CertError>
     ensures { Parses (λ step. step) result (cond good (Some step) None) }
 {
@@ -150,13 +150,13 @@ fn step_at(alloc: Global, parts: &mut Parts) -> Result<CertStep, CertError>
     step_by(alloc, letter, parts)
 }
 
-/// The step whose line this is, without its line feed. It is formed.
+/// The step of this line, without its line feed. It is formed.
 ///
-/// `BadLine` comes exactly where no step has this line. The other error is want of memory.
+/// `BadLine` comes exactly if no step has this line. The other error is out of memory.
 pub fn read_line(alloc: Global, line: &[u8]) -> Result<CertStep, CertError>
     ensures exact { Parses (λ step. step) result (step_in line.now) }
 
-    // What the function reads has this line, and what has this line is read.
+    // A step that is read has this line, and a step that has this line is read.
     ensures reads { IsReading HasLine line_of line.now (step_in line.now) }
 {
     let mut parts = Parts::new(line);

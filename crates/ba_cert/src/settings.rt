@@ -26,7 +26,7 @@ fn next_small(parts: &mut Parts) -> Option<u32>
     small_of(part)
 }
 
-/// The settings whose numbers are all the parts that are left.
+/// The settings whose numbers are the remaining parts.
 #[tactic(auto, unfolding(crate::specs::Reading::head_at))]
 fn head_at(parts: &mut Parts) -> Option<CertHead>
     ensures { result ≡ head_at parts.old }
@@ -56,13 +56,13 @@ fn settings_at(parts: &mut Parts) -> Option<CertHead>
     head_at(parts)
 }
 
-/// The settings whose line this is, without its line feed. It takes no memory.
+/// The settings of this line, without its line feed. It takes no memory.
 ///
-/// `None` comes exactly where no settings have this line.
+/// `None` comes exactly if no settings have this line.
 pub fn read_settings(line: &[u8]) -> Option<CertHead>
     ensures exact { result ≡ settings_in line.now }
 
-    // What is read has this line, and what has this line is read.
+    // Settings that are read have this line, and settings that have this line are read.
     ensures reads { IsReading IsHead settings_line line.now result }
 {
     let mut parts = Parts::new(line);

@@ -1,4 +1,4 @@
-//! A certificate that is written as its steps are made.
+//! A certificate written as its steps are made.
 
 ghost use base.Fml.{GName};
 ghost use Rattle.std.specs.Prelude.{◌≡◌, ◌<◌, ◌≤◌, ◌^◌, ◌&&◌, bytes_eq, is_ok, ℕ, List, true, false, [], OnOk, OnErr};
@@ -17,6 +17,7 @@ use ba_world::{World, WorldError};
 use std::alloc::Global;
 use std::marker::{Brand, PhantomData};
 
+/// The error of a sink for one of the world.
 fn sink_error(error: WorldError) -> SinkError
     ensures { result ≡ sink_error error }
 {
@@ -26,11 +27,11 @@ fn sink_error(error: WorldError) -> SinkError
     }
 }
 
-/// Begins the file of this name in place of one that is there, and adds the first two lines of a
-/// certificate of these settings.
+/// Begins the file of this name, and writes the first two lines of a certificate of these settings. It
+/// replaces a file of that name.
 ///
-/// `Failed` comes only where the world's faults of writing rose in this call, and the other error
-/// is want of memory. A file that was begun then holds a prefix of these lines.
+/// `Failed` comes only if the world's faults of writing rose in this call; the other error is out of memory.
+/// A file that was begun then holds a prefix of these lines.
 pub fn begin_text<W: World>(
     alloc: Global,
     world: &mut W,
@@ -81,9 +82,8 @@ fn add_line<W: World>(
     Ok(())
 }
 
-/// The name of a file that is written, the settings that it names, and the outside and the faults of the
-/// sink that steps are handed on to, before the file was begun. The proof of a call at [`Brand`] says
-/// which they are.
+/// What held before a file was begun: its name, its settings, the outside, and the faults of the sink that
+/// steps are handed on to. A proof picks them at a call with [`Brand`].
 pub trait Start {
     // The name.
     ghost name: { List ℕ };
@@ -110,11 +110,12 @@ impl Start for Brand {
 
 /// A sink that writes each step as a line of a certificate, into a file of a world.
 ///
-/// Its log is the list of steps of the whole lines that the world keeps under the file's name behind
-/// those of the settings, where it tells them. Its faults are the world's faults of writing, and it tells
-/// no formulas. After a refusal the file may end inside a line, so every further step is refused with
-/// `Memory`, and the world isn't called. Since the start `S` only the file of this name was written, and
-/// it holds the first bytes of a certificate of the settings of `S`, which are the sink's.
+/// Its log has the steps of the whole lines after the settings, as the world keeps them under the file's
+/// name, if told. Its faults are the world's faults of writing, and it tells no formulas. After a refusal the
+/// file may end inside a line, so every further step is refused with `Memory`, and the world isn't called.
+///
+/// Since the start `S` only the file of this name was written. It holds the first bytes of a certificate of
+/// the settings of `S`, which are the sink's.
 #[derive(Drop)]
 pub struct TextSink<'a, W: World, S: Start> {
     alloc: Global,
@@ -132,8 +133,8 @@ pub struct TextSink<'a, W: World, S: Start> {
 }
 
 impl<'a, W: World, S: Start> TextSink<'a, W, S> {
-    /// A sink over a file that [`begin_text`] has begun, in a world that is still the same. It
-    /// takes no memory.
+    /// A sink over a file that [`begin_text`] has begun, in a world that has not changed since. It takes no
+    /// memory.
     pub fn new(alloc: Global, world: &'a mut W, name: &'a str, head: CertHead) -> TextSink<'a, W, S>
         requires sound { is_sound head true name.now (W.outside world.old) ≡ true }
         requires named { name.now ≡ S.name }
@@ -156,8 +157,8 @@ impl<'a, W: World, S: Start> TextSink<'a, W, S> {
         }
     }
 
-    /// Whether the file has this name and no step was refused, so that it holds the certificate of
-    /// the steps in the log and nothing more.
+    /// Whether the file has this name and no step was refused. If so it holds the certificate of the steps in
+    /// the log, and nothing more.
     pub fn is_whole(&self, name: &str) -> bool
         ensures exactly { result ≡ self.now.whole && bytes_eq self.now.name.now name.now }
         ensures named { result ≡ true → name.now ≡ self.now.name.now }
@@ -181,8 +182,8 @@ impl<'a, W: World, S: Start> StepSink for TextSink<'a, W, S> {
         Ok(())
     }
 
-    /// Writes the line of a step. A refused step leaves the sink without its whole file, and from then on each step is refused and nothing
-    /// is written.
+    /// Writes the line of a step. After a refused step the file is not whole; each further step is refused
+    /// and nothing is written.
     #[tactic(auto, using(crate::proofs::SinkLaws::stays_then))]
     fn take(&mut self, step: &CertStep) -> Result<(), SinkError>
         requires formed { IsFormed step.now }
@@ -202,8 +203,8 @@ impl<'a, W: World, S: Start> StepSink for TextSink<'a, W, S> {
     }
 }
 
-/// A sink that hands each step to a [`TextSink`], and then to another sink, which alone takes the
-/// formulas, and whose faults are no fewer than at the start `S`.
+/// A sink that hands each step to a [`TextSink`], and then to another sink, which alone takes the formulas.
+/// The other sink's faults are no fewer than at the start `S`.
 #[derive(Drop)]
 pub struct CertSink<'a, 'b, W: World, S: Start, D: StepSink> {
     pub text: TextSink<'a, W, S>,

@@ -12,7 +12,7 @@ use ba_steps::CertStep;
 use ba_text::{push_choices, push_number};
 use std::alloc::{AllocError, Global};
 
-/// Adds the letters of a kind of step, and then literals and hints, each part after a space.
+/// Appends the letters of a kind of step, and then literals and hints, each part after a space.
 fn push_clause(
     kind: &[u8],
     lits: &[Lit],
@@ -26,7 +26,7 @@ fn push_clause(
     push_list(hints, text)
 }
 
-/// Adds the line of a step, without its line feed.
+/// Appends the line of a step, without its line feed.
 fn push_line(step: &CertStep, text: &mut Vec<u8>) -> Result<(), AllocError>
     ensures { Adds result text.old text.new (line_of step.now) }
 {
@@ -60,7 +60,7 @@ fn push_line(step: &CertStep, text: &mut Vec<u8>) -> Result<(), AllocError>
 
 /// The line of a step, with its line feed.
 ///
-/// The one error is want of memory.
+/// The only error is out of memory.
 pub fn step_text(alloc: Global, step: &CertStep) -> Result<Vec<u8>, AllocError>
     ensures { IfOk result (λ text. text.items ≡ with_feed (line_of step.now)) }
 {
@@ -70,7 +70,7 @@ pub fn step_text(alloc: Global, step: &CertStep) -> Result<Vec<u8>, AllocError>
     Ok(text)
 }
 
-/// Adds a number after a space.
+/// Appends a number after a space.
 fn push_spaced(number: u64, text: &mut Vec<u8>) -> Result<(), AllocError>
     ensures { Adds result text.old text.new (spaced (decimal number ∷ [])) }
 {
@@ -78,7 +78,7 @@ fn push_spaced(number: u64, text: &mut Vec<u8>) -> Result<(), AllocError>
     push_number(number, text)
 }
 
-/// Adds the settings line, without its line feed.
+/// Appends the settings line, without its line feed.
 fn push_settings(head: &CertHead, text: &mut Vec<u8>) -> Result<(), AllocError>
     ensures { Adds result text.old text.new (settings_line head.now) }
 {
@@ -91,7 +91,7 @@ fn push_settings(head: &CertHead, text: &mut Vec<u8>) -> Result<(), AllocError>
 
 /// The first two lines of a certificate, each with its line feed: the version, and the settings.
 ///
-/// The one error is want of memory.
+/// The only error is out of memory.
 pub fn head_text(alloc: Global, head: &CertHead) -> Result<Vec<u8>, AllocError>
     ensures { IfOk result (λ text. text.items ≡ head_text head.now) }
 {
@@ -102,12 +102,12 @@ pub fn head_text(alloc: Global, head: &CertHead) -> Result<Vec<u8>, AllocError>
     Ok(text)
 }
 
-/// Says what the type of a number keeps.
+/// States what the type of a number keeps.
 fn has_32_bits(number: u32)
     ensures { number < 2 ^ 32 }
 {}
 
-/// Says what the type of settings keeps, beside the conflicts: these settings have a line.
+/// States what the types of settings keep, besides the conflicts: these settings have a line.
 pub(crate) fn is_head(head: &CertHead)
     ensures { head.now.conflicts < 2 ^ 62 → IsHead head.now }
 {
@@ -116,12 +116,12 @@ pub(crate) fn is_head(head: &CertHead)
     has_32_bits(head.sets);
 }
 
-/// Says what the type of a step keeps: the numbers of groups have 32 bits.
+/// States what the type of a step keeps: group numbers have 32 bits.
 pub(crate) fn have_32_bits(groups: &[u32])
     ensures { All (λ n. n < 2 ^ 32) groups.now }
 {}
 
-/// The same of a step.
+/// The same for a step.
 pub(crate) fn groups_have_32_bits(step: &CertStep)
     ensures { HasSmallGroups step.now }
 {

@@ -1,4 +1,4 @@
--- A text is accepted exactly where it is a certificate.
+-- A text is accepted exactly if it is a certificate.
 
 use Rattle.std.proofs.Common.{◌≡◌, ℕ, ◌+◌, ◌==◌, Bool, true, false, cond, Option, None, Some, List, [], ◌∷◌, ◌++◌, map, flat_map, bytes_eq, All, refl, sym, ap, ◌∙◌, subst, append_assoc, append-nil, arith, ◌↔◌, ◌&&◌, inl, inr, ◌⊎◌}
 use Rattle.std.proofs.lemmas.Bool.{and_from, and_parts, eqb-true}
@@ -18,7 +18,7 @@ use Rattle.ba_steps.specs.Steps.{IsFormed}
 use Rattle.ba_steps.specs.declared.step.CertStep.{CertStep}
 use Rattle.ba_steps.specs.declared.step.StepError.{StepError}
 use Rattle.ba_choices.specs.Judges.{Judge}
-use Rattle.ba_checker.specs.Judging.{after, after_all, error_of, next_if}
+use Rattle.ba_checker.specs.StepRules.{after, after_all, error_of, next_if}
 use Rattle.ba_checker.specs.States.{State}
 use Rattle.ba_check.specs.Findings.{Accepted, Awaits, Begins, Course, Goes, IsCertificateOf, IsTextOf, Stops, after_line, after_lines, after_read, after_settings, after_step, bad_line, code_of, course_of, finding_by, finding_of, other_settings, same_settings}
 use Rattle.ba_check.specs.Lines.{HasNoFeed, lines_in, rest_in}
@@ -475,7 +475,7 @@ begins-old : (head : CertHead) (good : Judge) (s : State) (lines : List (List �
 unfolding after_line
 begins-old head good s lines = refl
 
--- where all lines are steps but those of the head, and they are so many
+-- if all lines are steps but those of the head, and they are so many
 record Comes (head : CertHead) (p : Problem) (text : List ℕ) (steps : List CertStep) : Type 0 where
   count : ℕ
   course_is : course_of head p text

@@ -18,9 +18,9 @@ use Rattle.ba_check.specs.Readings.{Confirming, Follows, HasRead, Keeps, KeepsWi
 use Rattle.ba_check.specs.declared.confirmed.Confirmed.{Confirmed}
 use Rattle.ba_check.specs.declared.error.CheckError.{CheckError}
 use Rattle.ba_check.specs.declared.error.CheckError.TheVariants.{Line, Memory}
-use Rattle.ba_check.specs.declared.judged.Judged.{Judged}
-use Rattle.ba_check.specs.declared.judged.Stage.{Stage}
-use Rattle.ba_check.specs.declared.judged.Stage.TheVariants as stage
+use Rattle.ba_check.specs.declared.checked_lines.CheckedLines.{CheckedLines}
+use Rattle.ba_check.specs.declared.checked_lines.Stage.{Stage}
+use Rattle.ba_check.specs.declared.checked_lines.Stage.TheVariants as stage
 use Rattle.ba_check.proofs.CourseLaws.{TellsRefusal, course-append, refused-found, refused-stays, stopped-by}
 use Rattle.ba_check.proofs.LineLaws.{all-rest, cut-lines, cut-rest, no-line, rest-append, rest-plain}
 
@@ -73,18 +73,20 @@ cut-none bytes e = by (ltb (position_or_len is_line_end bytes) (length bytes)) r
 
 -- THE HEAD LINE, SETTINGS, AND STEPS
 
-pub head-line : (head : CertHead) (good : Judge) (old : Judged) (line : List ℕ) → old.stage ≡ stage.Head →
+pub head-line : (head : CertHead) (good : Judge) (old : CheckedLines) (line : List ℕ) →
+    old.stage ≡ stage.Head →
     after_line head good (course_kept old) line ≡ after_head old.checker line
 unfolding after_line
 head-line head good old line is = ap (λ s. after_line head good (course_at s old) line) is
 
-pub settings-line : (head : CertHead) (good : Judge) (old : Judged) (line : List ℕ) →
+pub settings-line : (head : CertHead) (good : Judge) (old : CheckedLines) (line : List ℕ) →
     old.stage ≡ stage.Settings →
     after_line head good (course_kept old) line ≡ after_settings head old.checker (settings_in line)
 unfolding after_line
 settings-line head good old line is = ap (λ s. after_line head good (course_at s old) line) is
 
-pub step-line : (head : CertHead) (good : Judge) (old : Judged) (line : List ℕ) → old.stage ≡ stage.Steps →
+pub step-line : (head : CertHead) (good : Judge) (old : CheckedLines) (line : List ℕ) →
+    old.stage ≡ stage.Steps →
     after_line head good (course_kept old) line ≡ after_read good old.lines old.checker (step_in line)
 unfolding after_line
 step-line head good old line is = ap (λ s. after_line head good (course_at s old) line) is
@@ -116,7 +118,7 @@ module _ (head : CertHead) (good : Judge) (old : Course) (rest piece : List ℕ)
         same_rest = way.same_rest ∙ cut-rest kept left end behind way.plain cut;
       })
 
-  pub line-refused : (new later : Judged) (bytes end behind : List ℕ) (error : CheckError) →
+  pub line-refused : (new later : CheckedLines) (bytes end behind : List ℕ) (error : CheckError) →
       IsCut left end behind → Keeps (Err error) new (after_line head good now (kept ++ end)) →
       KeepsWith (Err error) later bytes (after_lines head good old) (rest ++ piece)
   line-refused new later bytes end behind (Line number code) cut keeps =
@@ -125,7 +127,7 @@ module _ (head : CertHead) (good : Judge) (old : Course) (rest piece : List ℕ)
       ∙ stopped-by head good (after_line head good now (kept ++ end)) number code (lines_in behind) keeps
   line-refused new later bytes end behind Memory cut keeps = tt
 
-  pub piece-ends : (new : Judged) (bytes : List ℕ) → now ≡ course_kept new → bytes ≡ kept ++ left →
+  pub piece-ends : (new : CheckedLines) (bytes : List ℕ) → now ≡ course_kept new → bytes ≡ kept ++ left →
       HasNoFeed left → KeepsWith (Ok tt) new bytes (after_lines head good old) (rest ++ piece)
   piece-ends new bytes is all plain =
       let both : HasNoFeed (kept ++ left) = All-append (λ b. is_line_end b ≡ false) kept left way.plain
@@ -180,12 +182,13 @@ fed head p text piece reader has none =
     }
 
 -- what is kept is no refusal
-unrefused : (s : Stage) (judged : Judged) → refusal_in (course_at s judged) ≡ None
-unrefused stage.Head judged = refl
-unrefused stage.Settings judged = refl
-unrefused stage.Steps judged = refl
+unrefused : (s : Stage) (checked : CheckedLines) → refusal_in (course_at s checked) ≡ None
+unrefused stage.Head checked = refl
+unrefused stage.Settings checked = refl
+unrefused stage.Steps checked = refl
 
-follows-by : (head : CertHead) (p : Problem) (text : List ℕ) (refusal : Option CheckError) (new : Judged)
+follows-by : (head : CertHead) (p : Problem) (text : List ℕ) (refusal : Option CheckError)
+    (new : CheckedLines)
     (rest : List ℕ) (course : List (List ℕ) → Course) (bytes : List ℕ) →
     course (lines_in bytes) ≡ course_of head p text → rest_in bytes ≡ rest_in text →
     KeepsWith (answer_by refusal) new rest course bytes → Follows head p text (course_kept new) rest refusal
@@ -197,7 +200,7 @@ follows-by head p text (Some (Line number code)) new rest course bytes is all ke
 follows-by head p text (Some Memory) new rest course bytes is all keeps = tt
 
 pub piece-read : (head : CertHead) (p : Problem) (text piece : List ℕ) (reader : Confirming)
-    (own : CertHead) (good : Judge) (new : Judged)
+    (own : CertHead) (good : Judge) (new : CheckedLines)
     (rest : List ℕ) (refusal : Option CheckError) → HasRead head p text reader → reader.refusal ≡ None →
     own ≡ reader.head → good ≡ reader.good →
     KeepsWith (answer_by refusal) new rest (after_lines reader.head reader.good reader.course)

@@ -1,4 +1,4 @@
--- The lines of a text, and what stands behind the last of them.
+-- The lines of a text, and what follows the last of them.
 
 use Rattle.std.proofs.Common.{◌≡◌, ℕ, ◌+◌, ◌<◌, Bool, true, false, cond, List, [], ◌∷◌, ◌++◌, length, flat_map, refl, sym, ap, ◌∙◌, append_assoc, arith}
 use Rattle.std.specs.List.{count_by, onto_first, slice_split}
@@ -131,7 +131,7 @@ rest-behind line behind plain =
     ap last_of (slice_split_at is_line_end line 10 behind plain refl)
     ∙ last_of-more line (split behind) (some-parts behind)
 
--- what stands before a piece, and what stands in it before its first line feed, make a line
+-- what precedes a piece, and what is in it before its first line feed, make a line
 joins : (front bytes line behind : List ℕ) → IsCut bytes line behind →
     front ++ bytes ≡ (front ++ line) ++ 10 ∷ behind
 joins front bytes line behind cut =

@@ -11,7 +11,7 @@ use Rattle.ba_cert.specs.Text.{HasLine, HasSmallGroups, IsHead, text_of}
 use Rattle.ba_checker.proofs.FactLaws.{allowed, block_parts}
 use Rattle.ba_checker.specs.Blocks as groups
 use Rattle.ba_checker.specs.Blocks.{lacks_group}
-use Rattle.ba_checker.specs.Judging.{after, after_all, error_before_end, error_of}
+use Rattle.ba_checker.specs.StepRules.{after, after_all, error_before_end, error_of}
 use Rattle.ba_checker.specs.States.{State}
 use Rattle.ba_choices.specs.Judges.{Judge}
 use Rattle.ba_derivations.proofs.StepLaws.{before_end}

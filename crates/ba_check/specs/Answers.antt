@@ -1,4 +1,4 @@
--- What is answered of a text.
+-- What is answered for a text.
 
 use Rattle.std.specs.Prelude.{◌≡◌, ℕ, nat_eq, Result, Ok, Err, IfOk, List, [], map}
 use Rattle.std.specs.Cmp.Lexicographic.{pointwise}
@@ -32,7 +32,7 @@ problem_of p input settings encoded = record {
   most_sets = settings.sets;
 }
 
--- the settings of a call, as a certificate names them
+-- the settings of a call, as a certificate has them
 abbrev pub head_of : Settings → CertHead
 head_of settings =
     record { bounds = settings.bounds; conflicts = settings.conflicts; sets = settings.sets }
@@ -41,20 +41,21 @@ head_of settings =
 abbrev pub statements_of : List (List ℕ) → List (List StmtId)
 statements_of sets = map (map stmt_of) sets
 
+-- what a verdict says without its runs
 abbrev pub confirmed_of : Verdict → Confirmed
 confirmed_of (Located weight sets) = confirmed.Located weight (statements_of sets)
 confirmed_of NoRepair = confirmed.NoRepair
 confirmed_of (TooMany weight sets) = confirmed.TooMany weight
 confirmed_of Spent = confirmed.Spent
 
--- an answer is what is found; want of memory says nothing
+-- an answer is what is found; out of memory says nothing
 abbrev pub Tells : Result Confirmed CheckError → Finding → Type 0
 Tells (Ok confirmed) (Accepted verdict) = confirmed ≡ confirmed_of verdict
 Tells (Ok confirmed) (Refused line code) = ⊥
 Tells (Err (Line line code)) finding = finding ≡ Refused line code
 Tells (Err Memory) finding = Unit {0}
 
--- WHAT A YES SAYS of the runs that a judge calls good
+-- WHAT AN ACCEPTED TEXT SAYS of the runs that a judge calls good
 
 -- these are exactly the least sets, each once, all of this weight
 pub record AreLeastSets (weights : WeightList) (good : Judge) (weight : ℕ) (sets : List (List StmtId)) :
@@ -65,24 +66,25 @@ pub record AreLeastSets (weights : WeightList) (good : Judge) (weight : ℕ) (se
     pub all_least : AreAllLeast weights good weight found
     pub differ : IsDistinct (pointwise nat_eq) found
 
--- more least sets than may be listed are of this weight
+-- more least sets than may be listed exist, all of this weight
 pub record AreMoreThan (weights : WeightList) (good : Judge) (weight most : ℕ) : Type 0 where
   pub found : List (List ℕ)
   pub too_many : AreTooMany weights good weight most found
 
--- the text is that of steps that hold as many conflicts as there may be
+-- the text is that of steps that hold exactly the allowed number of conflicts
 pub record IsSpentBy (h : CertHead) (p : Problem) (text : List ℕ) : Type 0 where
   pub steps : List CertStep
   pub text_is : IsTextOf h text steps
   pub count : conflicts_in steps ≡ p.conflicts
 
+-- what was confirmed is true of the text, by these weights and settings
 abbrev pub IsTrueOf : WeightList → CertHead → Problem → List ℕ → Confirmed → Type 0
 IsTrueOf weights h p text (confirmed.Located weight sets) = AreLeastSets weights p.good weight sets
 IsTrueOf weights h p text confirmed.NoRepair = AreLeast weights p.good []
 IsTrueOf weights h p text (confirmed.TooMany weight) = AreMoreThan weights p.good weight p.most_sets
 IsTrueOf weights h p text confirmed.Spent = IsSpentBy h p text
 
--- AN ANSWER is what is found of the text, and what it says is true, over a faithful encoding
+-- AN ANSWER is what is found of the text; over a faithful encoding what it says is true
 pub record Answers (h : CertHead) (p : Problem) (text : List ℕ) (result : Result Confirmed CheckError) :
     Type 0
   where

@@ -1,15 +1,16 @@
--- The whole lines of a text, each of which a line feed ends, and what stands behind the last line feed.
+-- The whole lines of a text, each ended by a line feed, and what follows the last line feed.
 
 use Rattle.std.specs.Prelude.{◌≡◌, ℕ, false, List, [], ◌∷◌, ◌++◌, All}
 use Rattle.ba_bytes.specs.Lines.{lines_of}
 use Rattle.ba_bytes.specs.Classes.{is_line_end}
 
--- all parts but the last, and the last
+-- all items but the last, and the last
 abbrev pub all_but_last : List (List ℕ) → List (List ℕ)
 all_but_last [] = []
 all_but_last (part ∷ []) = []
 all_but_last (part ∷ other ∷ parts) = part ∷ all_but_last (other ∷ parts)
 
+-- the last part
 abbrev pub last_of : List (List ℕ) → List ℕ
 last_of [] = []
 last_of (part ∷ []) = part
@@ -19,7 +20,7 @@ last_of (part ∷ other ∷ parts) = last_of (other ∷ parts)
 unfoldable pub lines_in : List ℕ → List (List ℕ)
 lines_in text = all_but_last (lines_of text)
 
--- what stands behind the last line feed
+-- what follows the last line feed
 unfoldable pub rest_in : List ℕ → List ℕ
 rest_in text = last_of (lines_of text)
 

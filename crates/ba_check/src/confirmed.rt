@@ -4,7 +4,7 @@ ghost use Rattle.std.specs.Prelude.{◌≡◌, option_map, map, IfOk};
 ghost use Rattle.ba_check.specs.Answers.{confirmed_of, statements_of};
 ghost use Rattle.ba_check.specs.Readings.{verdict_at};
 ghost use Rattle.ba_derivations.specs.Derivations.{verdict_of};
-ghost use Rattle.ba_checker.specs.Judging.{after};
+ghost use Rattle.ba_checker.specs.StepRules.{after};
 ghost use Rattle.ba_checker.specs.States.{State};
 ghost use Rattle.ba_tree.specs.Least.{stmt_of};
 
@@ -32,7 +32,7 @@ pub enum Confirmed {
     Spent,
 }
 
-/// Which step ended a certificate.
+/// The kind of step that ended a certificate.
 #[derive(Clone, Copy)]
 pub(crate) enum Ending {
     Located,
@@ -41,7 +41,7 @@ pub(crate) enum Ending {
     Spent,
 }
 
-/// How a step ends a certificate, if it does.
+/// The kind of end of a step, if it is an End step.
 pub(crate) fn ending_of(step: &CertStep) -> Option<Ending>
     ensures { (s : State) → option_map (verdict_at (after s step.now)) result
         ≡ verdict_of s step.now }
@@ -57,7 +57,7 @@ pub(crate) fn ending_of(step: &CertStep) -> Option<Ending>
 
 /// The statements of these numbers.
 ///
-/// The one error is want of memory.
+/// The only error is out of memory.
 fn set_of(alloc: Global, numbers: &[u32]) -> Result<Items<StmtId>, AllocError>
     ensures { IfOk result (λ set. set ≡ map stmt_of numbers.now) }
 {
@@ -70,7 +70,7 @@ fn set_of(alloc: Global, numbers: &[u32]) -> Result<Items<StmtId>, AllocError>
 
 /// The sets of statements of these numbers.
 ///
-/// The one error is want of memory.
+/// The only error is out of memory.
 fn sets_of(alloc: Global, groups: &[Items<u32>]) -> Result<Items<Items<StmtId>>, AllocError>
     ensures { IfOk result (λ sets. sets ≡ statements_of groups.now) }
 {
@@ -83,7 +83,7 @@ fn sets_of(alloc: Global, groups: &[Items<u32>]) -> Result<Items<Items<StmtId>>,
 
 /// What a certificate says that ended so, in the checker's state at the end.
 ///
-/// The one error is want of memory.
+/// The only error is out of memory.
 pub(crate) fn said_by(
     alloc: Global,
     checker: &Checker,

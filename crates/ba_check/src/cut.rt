@@ -5,7 +5,7 @@ ghost use Rattle.ba_check.specs.Lines.{HasNoFeed, IsCut};
 
 use ba_bytes::lines::feed_in;
 
-/// What stands before the first line feed, and what behind it; None where there is none.
+/// What precedes the first line feed, and what follows it; `None` if there is none.
 pub(crate) fn cut(bytes: &[u8]) -> Option<(&[u8], &[u8])>
     ensures { MatchOption result (HasNoFeed bytes.now)
         (λ parts. IsCut bytes.now parts.0.now parts.1.now) }

@@ -8,7 +8,7 @@ use ba_steps::StepError;
 use std::alloc::{AllocError, AllocFailed};
 use thiserror::Error;
 
-/// The code of a line that has not the form of a head line, of settings or of a step, where it has to.
+/// The code of a line that should be a head line, settings or a step, and isn't.
 pub(crate) const BAD_LINE: u8 = 20;
 
 /// The code of a text that ends before an End step, or inside a line.
@@ -20,14 +20,14 @@ pub(crate) const OTHER_SETTINGS: u8 = 22;
 /// Why a certificate isn't accepted.
 #[derive(Clone, Copy, Debug, PartialEq, Eq, Error)]
 pub enum CheckError {
-    /// The first line that is refused, counted from 1, and its code: the number of the step's error, from
-    /// 1 to 14; 20 where the line has no step's form, or is a first line other than both head lines, or
-    /// a second one behind `bugassist 2` that has not the form of settings; 21 where the text ends inside
-    /// this line, or before it and before a step that ends the derivation; 22 where the line names other
-    /// settings.
+    /// The first refused line, counted from 1, and its code:
+    /// - 1 to 14: the number of the step's error.
+    /// - 20: the line has not the form that it has to have, of a head line, of settings or of a step.
+    /// - 21: the text ends inside this line, or before it without an End step.
+    /// - 22: the settings are not those of the call.
     #[error("line {line} is refused by code {code}")]
     Line { line: u64, code: u8 },
-    /// There was no memory.
+    /// Out of memory.
     #[error("out of memory")]
     Memory,
 }
@@ -54,7 +54,7 @@ impl<T: Drop> From<AllocFailed<T>> for CheckError {
     }
 }
 
-/// What a step's error makes of its line.
+/// The error of a line whose step has this error.
 pub(crate) fn error_at(line: u64, error: StepError) -> CheckError
     ensures { result ≡ error_at line error }
 {
@@ -64,7 +64,7 @@ pub(crate) fn error_at(line: u64, error: StepError) -> CheckError
     }
 }
 
-/// What an error of reading a line makes of it.
+/// The error of a line that isn't read.
 pub(crate) fn unread_at(line: u64, error: CertError) -> CheckError
     ensures { result ≡ unread_at line error }
 {

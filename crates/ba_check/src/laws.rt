@@ -8,22 +8,22 @@ ghost use Rattle.ba_derivations.specs.Derivations.{DerivesOver, Problem, Verdict
 ghost use Rattle.ba_steps.specs.declared.step.CertStep.{CertStep};
 ghost use Rattle.ba_tree.specs.Least.{WeightList};
 
-/// A text is accepted with a verdict exactly where it is the text of steps that derive this verdict,
-/// with the settings of the call or of version 1; so one that is no certificate is refused.
+/// Law: a text is accepted with a verdict exactly if it is that of steps that derive the verdict. It has the
+/// settings of the call, or is of version 1. So a text that is no certificate is refused.
 pub fn accepted_law()
     ensures { (h : CertHead) (p : Problem) (text : List ℕ) (verdict : Verdict)
         → (finding_of h p text ≡ Accepted verdict) ↔ IsCertificateOf h p text verdict }
 {}
 
-/// The text of steps that derive a verdict over a faithful encoding is accepted with it. So a
-/// certificate that a search completed is accepted over the formula that it was made over.
+/// Law: the text of steps that derive a verdict over a faithful encoding is accepted with it. So a completed
+/// certificate of a search is accepted over the same formula.
 pub fn written_law()
     ensures { (h : CertHead) (weights : WeightList) (p : Problem) (steps : List CertStep)
         (v : Verdict) → IsHead h → length weights < 2 ^ 32 → DerivesOver weights p steps v
         → finding_of h p (text_of h steps) ≡ Accepted v }
 {}
 
-/// A line that is refused stays the first one, whatever follows, and is what is found of the text.
+/// Law: the first refused line stays the first, whatever follows, and is what is found of the text.
 pub fn refused_law()
     ensures stays { (h : CertHead) (p : Problem) (text more : List ℕ) (refusal : ℕ × ℕ)
         → first_refused h p text ≡ Some refusal → first_refused h p (text ++ more) ≡ Some refusal }

@@ -10,9 +10,9 @@ ghost use Rattle.ba_encode.specs.Softs.{softs_of};
 ghost use Rattle.ba_checker.specs.Facts.{AreSelectors};
 ghost use Rattle.ba_tree.specs.Run.{are_bounds};
 
+use crate::checked_lines::CheckedLines;
 use crate::confirmed::Confirmed;
 use crate::error::CheckError;
-use crate::judged::Judged;
 use crate::reading::LineReader;
 use crate::settings::{Settings, head_of};
 use ba_cert::CertHead;
@@ -23,8 +23,8 @@ use ba_tree::run::Input;
 use ba_tree::tree::Program;
 use std::alloc::{AllocError, Global};
 
-/// A reader that takes a certificate in pieces and judges each line once its line feed is there. It
-/// keeps of the text only what stands behind the last line feed. An error is answered from then on.
+/// A reader that takes a certificate in pieces, and checks each line once its line feed is there. It keeps
+/// only what follows the last line feed. An error is answered from then on.
 #[derive(Drop)]
 pub struct Confirm<'a> {
     head: CertHead,
@@ -36,7 +36,7 @@ pub struct Confirm<'a> {
 impl<'a> Confirm<'a> {
     /// A reader that has read nothing, over an encoding of the program's run.
     ///
-    /// The one error is want of memory.
+    /// The only error is out of memory.
     pub fn new(
         alloc: Global,
         program: &'a Program,
@@ -63,7 +63,7 @@ impl<'a> Confirm<'a> {
             head: head_of(settings),
             judge: ProgramJudge::new(alloc, program, input, settings.bounds),
             reading: LineReader {
-                judged: Judged::new(alloc, checker),
+                checked: CheckedLines::new(alloc, checker),
                 rest: Vec::new(alloc),
             },
             refusal: None,
@@ -72,9 +72,8 @@ impl<'a> Confirm<'a> {
 
     /// Takes the next bytes of the text.
     ///
-    /// `Line` comes exactly where a whole line of the bytes so far is refused, with the first such line.
-    /// The other error is want of memory. After an error nothing changes any more, and the answer stays
-    /// the same.
+    /// `Line` comes exactly if a whole line of the bytes so far is refused, with the first such line. The
+    /// other error is out of memory. After an error nothing changes any more, and the answer stays the same.
     pub fn feed(&mut self, piece: &[u8]) -> Result<(), CheckError>
         ensures reads { (h : CertHead) (p : Problem) (text : List ℕ)
             → HasRead h p text (seen self.old) → HasRead h p (text ++ piece.now) (seen self.new) }
@@ -89,11 +88,11 @@ impl<'a> Confirm<'a> {
         answer
     }
 
-    /// What the text says that was read.
+    /// What the text that was read says.
     ///
-    /// `Line` comes exactly where the text is no certificate of the problem: with the first whole line
-    /// that is refused, or, where none is, with the line after the whole ones and the code 21. The other
-    /// error is want of memory.
+    /// `Line` comes exactly if the text is no certificate of the problem. It has the first refused whole
+    /// line; if no line is refused, the line after the whole ones with code 21. The other error is out of
+    /// memory.
     pub fn finish(self) -> Result<Confirmed, CheckError>
         ensures answers { (h : CertHead) (p : Problem) (text : List ℕ)
             → HasRead h p text (seen self.entry) → Answers h p text result }
@@ -102,11 +101,11 @@ impl<'a> Confirm<'a> {
         if let Some(refusal) = self.refusal {
             return Err(refusal);
         }
-        self.reading.judged.finish(self.reading.rest.as_slice())
+        self.reading.checked.finish(self.reading.rest.as_slice())
     }
 }
 
-/// The error that an answer is.
+/// The error of an answer.
 fn refusal_of(answer: &Result<(), CheckError>) -> Option<CheckError>
     ensures { answer.now ≡ answer_by result }
 {

@@ -5,32 +5,32 @@ ghost use Rattle.ba_check.specs.Findings.{after_line, after_lines};
 ghost use Rattle.ba_check.specs.Lines.{HasNoFeed};
 ghost use Rattle.ba_check.specs.Readings.{Keeps, KeepsWith, course_kept};
 
+use crate::checked_lines::CheckedLines;
 use crate::cut::cut;
 use crate::error::CheckError;
-use crate::judged::Judged;
 use ba_cert::CertHead;
 use ba_steps::RunJudge;
 
-/// What came of the whole lines so far, and what stands behind the last line feed.
+/// The course of the whole lines so far, and what follows the last line feed.
 #[derive(Drop)]
 pub(crate) struct LineReader {
-    pub(crate) judged: Judged,
+    pub(crate) checked: CheckedLines,
     pub(crate) rest: Vec<u8>,
 }
 
 impl LineReader {
-    /// Takes the next bytes of the text. What stands behind the last line feed is kept, and no more.
+    /// Takes the next bytes of the text, and keeps only what follows the last line feed.
     ///
-    /// `Line` comes exactly where a line that ends in them is refused.
+    /// `Line` comes exactly if a line that ends in them is refused.
     pub(crate) fn take<J: RunJudge>(
         &mut self,
         head: &CertHead,
         judge: &J,
         piece: &[u8],
     ) -> Result<(), CheckError>
-        ensures { HasNoFeed self.old.rest.items → KeepsWith result self.new.judged
+        ensures { HasNoFeed self.old.rest.items → KeepsWith result self.new.checked
             self.new.rest.items (after_lines head.now (J.accepts judge.now)
-            (course_kept self.old.judged)) (self.old.rest.items ++ piece.now) }
+            (course_kept self.old.checked)) (self.old.rest.items ++ piece.now) }
     {
         let mut left = piece;
         while let Some((end, behind)) = cut(left) {
@@ -48,12 +48,12 @@ impl LineReader {
         judge: &J,
         end: &[u8],
     ) -> Result<(), CheckError>
-        ensures keeps { Keeps result self.new.judged (after_line head.now (J.accepts judge.now)
-            (course_kept self.old.judged) (self.old.rest.items ++ end.now)) }
+        ensures keeps { Keeps result self.new.checked (after_line head.now (J.accepts judge.now)
+            (course_kept self.old.checked) (self.old.rest.items ++ end.now)) }
         ensures empty { OnOk result (self.new.rest.items ≡ []) }
     {
         self.rest.extend_from_slice(end)?;
-        self.judged.take_line(head, judge, self.rest.as_slice())?;
+        self.checked.take_line(head, judge, self.rest.as_slice())?;
         self.rest.clear();
         Ok(())
     }

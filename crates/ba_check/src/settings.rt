@@ -1,4 +1,5 @@
-//! What a certificate is judged by, beside the program, its input and the encoding of its run.
+//! The settings by which a certificate is checked, besides the program, its input and the encoding of its
+//! run.
 
 ghost use Rattle.std.specs.Prelude.{◌≡◌};
 ghost use Rattle.ba_check.specs.Answers.{head_of};
@@ -6,8 +7,8 @@ ghost use Rattle.ba_check.specs.Answers.{head_of};
 use ba_cert::CertHead;
 use ba_tree::run::Bounds;
 
-/// The bounds of runs, how many conflicts the steps of a certificate may hold, and how many least sets
-/// may be listed. What the statements weigh is in the encoding.
+/// The bounds of runs, the limit on conflicts, and the limit on least sets. The weights of statements are in
+/// the encoding.
 #[derive(Clone, Copy)]
 pub struct Settings {
     pub bounds: Bounds,
@@ -15,7 +16,7 @@ pub struct Settings {
     pub sets: u32,
 }
 
-/// These settings as a certificate names them.
+/// These settings as a certificate has them.
 pub fn head_of(settings: Settings) -> CertHead
     ensures { result ≡ head_of settings }
 {

@@ -1,4 +1,4 @@
-//! A certificate that is there as a whole.
+//! A whole certificate.
 
 ghost use Rattle.std.specs.Prelude.{◌≡◌, true};
 ghost use Rattle.ba_check.specs.Answers.{Answers, head_of, problem_of};
@@ -15,11 +15,11 @@ use ba_tree::run::Input;
 use ba_tree::tree::Program;
 use std::alloc::Global;
 
-/// What a text says, as a certificate on the problem of a program's run over an encoding of it. Where
-/// the encoding is faithful, what is said is true, wherever the text comes from.
+/// What a text says, as a certificate on the problem of a program's run over an encoding of it. If the
+/// encoding is faithful, what is said is true, wherever the text comes from.
 ///
-/// `Line` comes exactly where the text is no certificate of the problem, with the first line that is
-/// refused and its code. The other error is want of memory.
+/// `Line` comes exactly if the text is no certificate of the problem, with the first refused line and its
+/// code. The other error is out of memory.
 pub fn confirm(
     alloc: Global,
     program: &Program,

@@ -12,38 +12,38 @@ use Rattle.ba_steps.specs.Steps.{AreAbove}
 use Rattle.ba_lits.proofs.ClauseLaws.{nil_formed, cons_formed, single_formed, IsClause-rest}
 use Rattle.ba_checker.specs.States.{present}
 use Rattle.ba_checker.specs.Facts.{Differs, AreDifferent, AreAmong}
-use Rattle.ba_checker.specs.Blocks.{entry_of, entry_weight, weight_at, lacks_group, placed, with_selector, block_clause}
+use Rattle.ba_checker.specs.Blocks.{entry_of, entry_weight, weight_at, lacks_group, inserted, with_selector, block_clause}
 
 -- no literal is of the variable
 abbrev Lacks : ℕ → List Literal → Type 0
 Lacks x [] = Unit {0}
 Lacks x (l ∷ ls) = (l.variable ≢ x) × Lacks x ls
 
-Lacks-placed : (x : ℕ) (l : Literal) (lits : List Literal) → l.variable ≢ x → Lacks x lits →
-    Lacks x (placed l lits)
-Lacks-placed x l [] ne lacks = (ne, tt)
-Lacks-placed x l (m ∷ ms) ne lacks = cases (ltb l.variable m.variable) (Lacks-placed x l ms ne lacks.1)
+Lacks-inserted : (x : ℕ) (l : Literal) (lits : List Literal) → l.variable ≢ x → Lacks x lits →
+    Lacks x (inserted l lits)
+Lacks-inserted x l [] ne lacks = (ne, tt)
+Lacks-inserted x l (m ∷ ms) ne lacks = cases (ltb l.variable m.variable) (Lacks-inserted x l ms ne lacks.1)
   where
-    cases : (t : Bool) → Lacks x (placed l ms) → Lacks x (cond t (l ∷ m ∷ ms) (m ∷ placed l ms))
+    cases : (t : Bool) → Lacks x (inserted l ms) → Lacks x (cond t (l ∷ m ∷ ms) (m ∷ inserted l ms))
     cases true rest = (ne, lacks)
     cases false rest = (lacks.0, rest)
 
 -- the first of them
-placed_above : (x : ℕ) (l : Literal) (lits : List Literal) → x < l.variable →
-    (0 < length lits → x < (lit_at lits 0).variable) → x < (lit_at (placed l lits) 0).variable
-placed_above x l [] lt rest = lt
-placed_above x l (m ∷ ms) lt rest = cases (ltb l.variable m.variable)
+inserted_above : (x : ℕ) (l : Literal) (lits : List Literal) → x < l.variable →
+    (0 < length lits → x < (lit_at lits 0).variable) → x < (lit_at (inserted l lits) 0).variable
+inserted_above x l [] lt rest = lt
+inserted_above x l (m ∷ ms) lt rest = cases (ltb l.variable m.variable)
   where
-    cases : (t : Bool) → x < (lit_at (cond t (l ∷ m ∷ ms) (m ∷ placed l ms)) 0).variable
+    cases : (t : Bool) → x < (lit_at (cond t (l ∷ m ∷ ms) (m ∷ inserted l ms)) 0).variable
     cases true = lt
     cases false = rest (omega arith)
 
-placed_formed : (n : ℕ) (l : Literal) (lits : List Literal) → 1 ≤ l.variable → l.variable ≤ n →
-    Lacks l.variable lits → IsClause n lits → IsClause n (placed l lits)
-placed_formed n l [] counted within lacks clause = single_formed n l counted within
-placed_formed n l (m ∷ ms) counted within lacks clause =
+inserted_formed : (n : ℕ) (l : Literal) (lits : List Literal) → 1 ≤ l.variable → l.variable ≤ n →
+    Lacks l.variable lits → IsClause n lits → IsClause n (inserted l lits)
+inserted_formed n l [] counted within lacks clause = single_formed n l counted within
+inserted_formed n l (m ∷ ms) counted within lacks clause =
     cases (ltb l.variable m.variable) refl
-    (placed_formed n l ms counted within lacks.1 (IsClause-rest n m ms clause))
+    (inserted_formed n l ms counted within lacks.1 (IsClause-rest n m ms clause))
   where
     less : (x y : ℕ) → ltb x y ≡ true → x < y
     less x y e = grind (arith, nat_tests)
@@ -51,13 +51,13 @@ placed_formed n l (m ∷ ms) counted within lacks clause =
     more : (x y : ℕ) → ltb x y ≡ false → y ≢ x → y < x
     more x y e ne = grind (arith, nat_tests)
 
-    cases : (t : Bool) → ltb l.variable m.variable ≡ t → IsClause n (placed l ms) →
-        IsClause n (cond t (l ∷ m ∷ ms) (m ∷ placed l ms))
+    cases : (t : Bool) → ltb l.variable m.variable ≡ t → IsClause n (inserted l ms) →
+        IsClause n (cond t (l ∷ m ∷ ms) (m ∷ inserted l ms))
     cases true e rest =
         cons_formed n l (m ∷ ms) counted within (λ some. less l.variable m.variable e) clause
     cases false e rest =
-        cons_formed n m (placed l ms) (clause.counted 0 (omega arith)) (clause.within 0 (omega arith))
-        (λ some. placed_above m.variable l ms (more l.variable m.variable e lacks.0) (λ some.
+        cons_formed n m (inserted l ms) (clause.counted 0 (omega arith)) (clause.within 0 (omega arith))
+        (λ some. inserted_above m.variable l ms (more l.variable m.variable e lacks.0) (λ some.
         clause.ascends 0 1 (omega arith) (omega arith))) rest
 
 -- an entry with a weight is one of those that are present
@@ -150,7 +150,7 @@ block_lacks groups n last s (m ∷ ms) differ is weighs le above exist =
         Lacks s.0.variable (with_selector o (block_clause groups ms))
     cases None e none rest = absurd (cc)
     cases (Some t) e some rest =
-        Lacks-placed s.0.variable t.0 (block_clause groups ms)
+        Lacks-inserted s.0.variable t.0 (block_clause groups ms)
         (numbered_differ groups n m s t differ (omega (arith, le, above.0)) is weighs e some) rest
 
 -- THE CLAUSE of a set
@@ -170,7 +170,7 @@ block_from variables groups last (n ∷ ns) among differ above exist =
     cases (Some s) e some later rest =
         let here = numbered_each (λ (x : Soft). (1 ≤ x.0.variable) × (x.0.variable ≤ variables)) groups n s
         among e some in
-        placed_formed variables s.0 (block_clause groups ns) here.0 here.1
+        inserted_formed variables s.0 (block_clause groups ns) here.0 here.1
         (block_lacks groups n n s ns differ e some (omega arith) above.1 later) rest
 
 pub block_formed : (variables : ℕ) (groups : List Soft) (set : List ℕ) →
@@ -178,23 +178,23 @@ pub block_formed : (variables : ℕ) (groups : List Soft) (set : List ℕ) →
     lacks_group groups set ≡ false → IsClause variables (block_clause groups set)
 block_formed variables groups set = block_from variables groups 0 set
 
--- where a literal is placed: before the first of a greater variable
-pub placed_turn : (l m : Literal) (lits : List Literal) (k : ℕ) → slice_get lits k ≡ Some m →
+-- where a literal is inserted: before the first of a greater variable
+pub inserted_turn : (l m : Literal) (lits : List Literal) (k : ℕ) → slice_get lits k ≡ Some m →
     ltb l.variable m.variable ≡ false →
-    take (suc k) lits ++ placed l (drop (suc k) lits) ≡ take k lits ++ placed l (drop k lits)
-placed_turn l m [] k is later = absurd (cc)
-placed_turn l m (x ∷ xs) zero is later =
+    take (suc k) lits ++ inserted l (drop (suc k) lits) ≡ take k lits ++ inserted l (drop k lits)
+inserted_turn l m [] k is later = absurd (cc)
+inserted_turn l m (x ∷ xs) zero is later =
     let test : ltb l.variable x.variable ≡ false =
     ap (λ (y : Literal). ltb l.variable y.variable) (same_Some x m is) ∙ later in
-    sym (ap (λ b. cond b (l ∷ x ∷ xs) (x ∷ placed l xs)) test)
-placed_turn l m (x ∷ xs) (suc k) is later = ap (λ ys. x ∷ ys) (placed_turn l m xs k is later)
+    sym (ap (λ b. cond b (l ∷ x ∷ xs) (x ∷ inserted l xs)) test)
+inserted_turn l m (x ∷ xs) (suc k) is later = ap (λ ys. x ∷ ys) (inserted_turn l m xs k is later)
 
-pub placed_here : (l m : Literal) (lits : List Literal) (k : ℕ) → slice_get lits k ≡ Some m →
+pub inserted_here : (l m : Literal) (lits : List Literal) (k : ℕ) → slice_get lits k ≡ Some m →
     ltb l.variable m.variable ≡ true →
-    take k lits ++ l ∷ drop k lits ≡ take k lits ++ placed l (drop k lits)
-placed_here l m [] k is sooner = absurd (cc)
-placed_here l m (x ∷ xs) zero is sooner =
+    take k lits ++ l ∷ drop k lits ≡ take k lits ++ inserted l (drop k lits)
+inserted_here l m [] k is sooner = absurd (cc)
+inserted_here l m (x ∷ xs) zero is sooner =
     let test : ltb l.variable x.variable ≡ true =
     ap (λ (y : Literal). ltb l.variable y.variable) (same_Some x m is) ∙ sooner in
-    sym (ap (λ b. cond b (l ∷ x ∷ xs) (x ∷ placed l xs)) test)
-placed_here l m (x ∷ xs) (suc k) is sooner = ap (λ ys. x ∷ ys) (placed_here l m xs k is sooner)
+    sym (ap (λ b. cond b (l ∷ x ∷ xs) (x ∷ inserted l xs)) test)
+inserted_here l m (x ∷ xs) (suc k) is sooner = ap (λ ys. x ∷ ys) (inserted_here l m xs k is sooner)

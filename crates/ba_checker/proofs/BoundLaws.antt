@@ -13,7 +13,7 @@ use Rattle.ba_steps.specs.declared.step.CertStep.TheVariants.{Core}
 use Rattle.ba_steps.specs.declared.step.StepError.TheVariants.{AfterEnd, NotSofts, CoreAfterSet, WrongCount, BadVariable, Memory}
 use Rattle.ba_checker.specs.Splits.{is_soft}
 use Rattle.ba_checker.specs.States.{State, first_state}
-use Rattle.ba_checker.specs.Judging.{error_if, lacks_variable, is_spent, lacks_soft, hint_error, core_error, error_of, after, after_all}
+use Rattle.ba_checker.specs.StepRules.{error_if, lacks_variable, is_spent, lacks_soft, hint_error, core_error, error_of, after, after_all}
 use Rattle.ba_checker.specs.Facts.{IsStart}
 use Rattle.ba_checker.proofs.FactLaws.{no_error, lightest_weighty, facts_hold}
 

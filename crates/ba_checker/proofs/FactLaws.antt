@@ -26,7 +26,7 @@ use Rattle.ba_lits.proofs.ClauseLaws.{IsClause-rest}
 use Rattle.ba_checker.specs.Splits.{in_order, or_gate, and_gate, some_of, or_clauses, and_clauses, split_clauses, fresh_count, split_softs, late_softs, is_soft, lesser, lightest, lowered}
 use Rattle.ba_checker.specs.States.{Kept, kept, State, kept_at, clause_at, live_lits, is_live_origin, is_learnt_at, is_learnt_entry, is_learnt_origin, width_at, lits_at, without, without_all, present, first_state}
 use Rattle.ba_choices.specs.Judges.{Judge}
-use Rattle.ba_checker.specs.Judging.{error_if, lacks_variable, is_spent, lacks_soft, hint_error, error_of_replay, error_of, after, after_learn, after_core, after_delete, after_block, block_error, may_go, apart_by, delete_error, after_all, next_if, learn_error, core_error}
+use Rattle.ba_checker.specs.StepRules.{error_if, lacks_variable, is_spent, lacks_soft, hint_error, error_of_replay, error_of, after, after_learn, after_core, after_delete, after_block, block_error, may_go, apart_by, delete_error, after_all, next_if, learn_error, core_error}
 use Rattle.ba_checker.specs.Facts.{all_lits, Differs, AreDifferent, AreAmong, IsStart, step_splits, splits_of, IsLive, IsBlocked, Holds}
 use Rattle.ba_checker.specs.Blocks.{lacks_group, is_among, set_weight, block_clause, block_clauses}
 use Rattle.ba_checker.proofs.BlockLaws.{block_formed}
@@ -40,8 +40,8 @@ use Rattle.ba_checker.proofs.LoweredLaws.{lowered_cost, hits, hits_count, AreAtL
 abbrev pub Stays : Origin → List Kept → List Literal → Type 0
 Stays origin clauses c = (number : ℕ) × (kept_at clauses number ≡ Some (kept origin c))
 
--- everything that the induction needs: the facts, that all variables are below the next fresh one, and that the clauses
--- of the formula, of the splits and of the blocked sets are there as such
+-- What the induction needs. The facts hold, and all variables are below the next fresh one. The clauses of
+-- the formula, of the splits and of the blocked sets have their origins.
 pub record KeepsFacts (good : Judge) (formula : Cnf) (softs : List Soft) (splits : List (List Literal)) (s
     : State) : Type 0 where
   pub facts : Holds good formula softs splits s
@@ -74,7 +74,7 @@ holds_number : (v : Assignment) (clauses : List Kept) (number : ℕ) (c : List L
 holds_number v clauses zero c holds is = absurd (cc)
 holds_number v clauses (suc k) c holds is = holds_at v clauses k c holds is
 
--- a clause without an error in its hints holds where the live ones do
+-- a clause without an error in its hints holds if the live ones do
 pub follows_true : (s : State) (v : Assignment) (lits : List Literal) (hints : List ℕ) →
     hint_error s lits hints ≡ None → all_true v (all_lits s.clauses) ≡ true → any_true v lits ≡ true
 follows_true s v lits hints none holds =
@@ -98,7 +98,7 @@ exist_below s (l ∷ ls) known =
     below : (n x : ℕ) → ltb n x ≡ false → x < n + 1
     below n x e = grind (arith, nat_tests)
 
--- an entry stays where others are added
+-- an entry stays if others are added
 slice_get-more : (xs ys : List Kept) (k : ℕ) (x : Kept) → slice_get xs k ≡ Some x →
     slice_get (xs ++ ys) k ≡ Some x
 slice_get-more [] ys k x is = absurd (cc)

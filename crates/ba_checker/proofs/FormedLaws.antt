@@ -1,4 +1,4 @@
--- The clauses of a split are clauses, and what holds of a state where steps are taken.
+-- The clauses of a split are clauses, and what holds of a state when steps are taken.
 
 use Rattle.std.proofs.Common.{◌≡◌, ◌≢◌, ℕ, suc, zero, ◌+◌, ◌-◌, ◌<◌, ◌≤◌, Bool, true, false, cond, ltb, Some, List, [], ◌∷◌, ◌++◌, map, length, All, refl, sym, arith, subst}
 use Rattle.std.proofs.lemmas.Option.{cond_some}

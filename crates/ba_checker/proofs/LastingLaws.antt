@@ -10,7 +10,7 @@ use Rattle.ba_lits.specs.Satisfaction.{Assignment, any_true, all_true}
 use Rattle.ba_lits.proofs.Satisfied.{all_true-append}
 use Rattle.ba_steps.specs.declared.step.StepError.TheVariants.{NotNew, WrongCount, BadVariable}
 use Rattle.ba_checker.specs.States.{Kept, kept, State, kept_at, is_learnt_at, is_learnt_entry, is_learnt_origin, is_lasting, is_lasting_origin, width_at, without, without_all}
-use Rattle.ba_checker.specs.Judging.{error_if, lacks_variable, is_spent, hint_error, learn_error}
+use Rattle.ba_checker.specs.StepRules.{error_if, lacks_variable, is_spent, hint_error, learn_error}
 use Rattle.ba_checker.specs.Facts.{all_lits, lasting}
 use Rattle.ba_checker.specs.Parts.{holds_clause}
 use Rattle.ba_checker.specs.declared.store.Origin.{Origin}
@@ -87,7 +87,7 @@ learn_implied s lits hints none h =
     let new = no_error (holds_clause s.clauses lits) NotNew (hint_error s lits hints) left.1 in
     learnt_implied s.clauses lits (λ v lives. follows_true s v lits hints new.1 lives) h
 
--- no lasting clause stands at the number
+-- no lasting clause is at the number
 abbrev pub lasts : Option Kept → Bool
 lasts None = false
 lasts (Some k) = is_lasting k

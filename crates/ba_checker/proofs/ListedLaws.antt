@@ -541,7 +541,7 @@ pub AreListed-deleted : (keys : List Keys) (clauses less : List Kept) (numbers :
     AreListed keys clauses → less ≡ without_all clauses numbers → AreListed keys less
 AreListed-deleted keys clauses less numbers h is = rw is (AreListed-without_all keys clauses numbers h)
 
--- a live clause with all its literals in some stands at a place
+-- a live clause with all its literals in some is at a place
 part_at : (clauses : List Kept) (place : ℕ) (lits : List Literal) →
     is_part_at clauses place lits ≡ (is_live_at clauses place && is_part (lits_at clauses place) lits)
 part_at [] place lits = refl
@@ -670,7 +670,7 @@ same_tests true b there back = sym (there refl)
 same_tests false true there back = absurd (let e = back refl in cc)
 same_tests false false there back = refl
 
--- a clause holds another exactly where one is listed as its part under 0 or one of its literals
+-- a clause holds another exactly if one is listed as its part under 0 or one of its literals
 pub parts_found : (clauses : List Kept) (all : List Keys) (lits : List Literal) (n : ℕ) →
     AreListed all clauses → n ≡ length all → (any_listed clauses (firsts all) 0 lits n
     || under_any clauses (firsts all) lits n lits) ≡ holds_clause clauses lits

@@ -16,7 +16,7 @@ use Rattle.ba_checker.specs.Splits.{split_clauses}
 use Rattle.ba_checker.specs.Blocks.{block_clause}
 use Rattle.ba_checker.specs.Parts.{is_part, is_live_part, holds_clause}
 use Rattle.ba_choices.specs.Judges.{Judge}
-use Rattle.ba_checker.specs.Judging.{error_if, lacks_variable, is_spent, hint_error, learn_error, delete_error, may_go, apart_by, error_of, after, after_all}
+use Rattle.ba_checker.specs.StepRules.{error_if, lacks_variable, is_spent, hint_error, learn_error, delete_error, may_go, apart_by, error_of, after, after_all}
 use Rattle.ba_checker.specs.declared.store.Origin.TheVariants as origins
 use Rattle.ba_checker.proofs.FactLaws.{no_error, allowed}
 
@@ -38,13 +38,13 @@ not_new (x ∷ xs) lits h = pick (is_live_part x lits) (leb (length x.lits) 2) (
     pick true b r q f e = refl
     pick false b r q f e = f e
 
--- it stays where clauses are added
+-- it stays if clauses are added
 more : (clauses added : List Kept) (lits : List Literal) → holds_narrow clauses lits ≡ true →
     holds_narrow (clauses ++ added) lits ≡ true
 more clauses added lits h = list_any-append (narrow lits) clauses added
     ∙ ap (λ b. b || list_any (narrow lits) added) h
 
--- and where a wider one is deleted
+-- and if a wider one is deleted
 too_wide : (b : Bool) (n : ℕ) → ltb 2 n ≡ true → (b && leb n 2) ≡ false
 too_wide true n wide = small
   where

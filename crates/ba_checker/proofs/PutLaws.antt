@@ -5,7 +5,7 @@ use Rattle.std.proofs.lemmas.List.{append_assoc}
 use Rattle.ba_steps.specs.Sinks.{Logs, with_step, MayAddStep}
 use Rattle.ba_steps.specs.declared.step.CertStep.{CertStep}
 use Rattle.ba_checker.specs.States.{State}
-use Rattle.ba_checker.specs.Judging.{after}
+use Rattle.ba_checker.specs.StepRules.{after}
 use Rattle.ba_checker.specs.Puts.{Checking, Lasts, with_steps, LeavesSteps, leaves_all, leaves_last}
 
 with_steps-append : (xs ys : List CertStep) (logs : Logs) →
@@ -18,7 +18,7 @@ pub logs_then : (xs ys : List CertStep) (k l m : Logs) → l ≡ with_steps xs k
     m ≡ with_steps (xs ++ ys) k
 logs_then xs ys k l m first second = second ∙ (ap (with_steps ys) first ∙ sym (with_steps-append xs ys k))
 
--- where steps lead there, they lead to what is said less exactly
+-- if steps lead there, they lead to what is said less exactly
 pub leaves_weaker : {lead more : List CertStep → State → Type 0} {new : State} {k l : Logs} →
     ((steps : List CertStep) (t : State) → lead steps t → more steps t) → LeavesSteps lead k new l →
     LeavesSteps more k new l
@@ -40,7 +40,7 @@ leaves_after {lead} {more} xs new k l m first then_ (leaves_last steps last befo
     (subst P (sym (append_assoc xs steps (last ∷ []))) (then_ (steps ++ last ∷ []) (after before last) tried))
     taken (subst Q (logs_then xs steps k l (with_steps steps l) first refl) may)
 
--- what lasts where nothing is done, and over two calls
+-- what lasts if nothing is done, and over two calls
 pub lasts_same : (p : Checking) → Lasts p p
 lasts_same p = record { judge_stays = refl; over_stays = refl; no_fall = omega arith; same_references = refl }
 

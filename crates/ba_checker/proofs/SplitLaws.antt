@@ -49,7 +49,7 @@ present-more s ss = cases (ltb 0 s.1)
     cases true = refl
     cases false = refl
 
--- one literal more where others follow
+-- one literal more if others follow
 pub late_softs-more : (w e : ℕ) (b : Literal) (rest : List Literal) → 0 < length rest →
     late_softs w e (b ∷ rest) ≡ (negative e, w) ∷ late_softs w (e + 1) rest
 late_softs-more w e b [] some = absurd (omega arith)

@@ -103,7 +103,7 @@ AndsHave v w e (b ∷ []) = Unit {0}
 AndsHave v w e (b ∷ c ∷ rest) = (w e ≡ (lit_true v b && any_true v (c ∷ rest)))
     × AndsHave v w (e + 1) (c ∷ rest)
 
--- what stands for `one of these is true` is true where one is
+-- what stands for `one of these is true` is true if one is
 pub some_of_true : (n : ℕ) (v w : Assignment) (d : ℕ) (b : Literal) (rest : List Literal) → Agree n v w →
     ClauseBelow n (b ∷ rest) → OrsHave v w d (b ∷ rest) →
     lit_true w (some_of d (b ∷ rest)) ≡ any_true v (b ∷ rest)

@@ -11,7 +11,7 @@ use Rattle.ba_lits.specs.Hints.{has_literal}
 use Rattle.ba_steps.specs.Steps.{AreFormedLits, AreAbove}
 use Rattle.ba_checker.specs.Splits.{split_clauses, fresh_count, late_softs, is_soft, lightest, lowered}
 use Rattle.ba_checker.specs.States.{Kept, kept, State, is_learnt_at, width_at, without_all, present}
-use Rattle.ba_checker.specs.Judging.{error_if, lacks_variable, is_spent, lacks_soft, hint_error, learn_error}
+use Rattle.ba_checker.specs.StepRules.{error_if, lacks_variable, is_spent, lacks_soft, hint_error, learn_error}
 use Rattle.ba_checker.specs.Parts.{holds_clause}
 use Rattle.ba_steps.specs.declared.step.StepError.TheVariants.{NotNew, WrongCount, BadVariable}
 use Rattle.ba_checker.specs.Facts.{AreSelectors, IsState}

@@ -7,25 +7,26 @@ use Prim.Native.Nat.{suc, zero}
 use Rattle.ba_lits.specs.Literals.{Literal}
 use Rattle.ba_lits.specs.Satisfaction.{Soft}
 
--- the entry of a group, by its written number, from 1 on
+-- the entry of a group, by its number, from 1 on
 abbrev pub entry_of : List Soft → ℕ → Option Soft
 entry_of groups zero = None
 entry_of groups (suc k) = slice_get groups k
 
--- the weight of an entry; an entry of weight 0 stands for no group, and so does none
+-- the weight of an entry; an entry of weight 0, or None, is no group
 abbrev pub entry_weight : Option Soft → ℕ
 entry_weight None = 0
 entry_weight (Some s) = s.1
 
+-- the weight of a group; 0 without one
 abbrev pub weight_at : List Soft → ℕ → ℕ
 weight_at groups number = entry_weight (entry_of groups number)
 
--- the weights of the groups of a set together
+-- the sum of the weights of a set's groups
 abbrev pub set_weight : List Soft → List ℕ → ℕ
 set_weight groups [] = 0
 set_weight groups (n ∷ ns) = weight_at groups n + set_weight groups ns
 
--- a number of the set is that of no group
+-- a number of the set names no group
 abbrev pub lacks_group : List Soft → List ℕ → Bool
 lacks_group groups set = list_any (λ n. weight_at groups n == 0) set
 
@@ -34,13 +35,14 @@ abbrev pub is_among : List (List ℕ) → List ℕ → Bool
 is_among sets set = list_any (λ other. pointwise nat_eq other set) sets
 
 -- literals of ascending variables with one more
-abbrev pub placed : Literal → List Literal → List Literal
-placed l [] = l ∷ []
-placed l (m ∷ ms) = if ltb l.variable m.variable then l ∷ m ∷ ms else m ∷ placed l ms
+abbrev pub inserted : Literal → List Literal → List Literal
+inserted l [] = l ∷ []
+inserted l (m ∷ ms) = if ltb l.variable m.variable then l ∷ m ∷ ms else m ∷ inserted l ms
 
+-- the literals with the selector of an entry, if there is one
 abbrev pub with_selector : Option Soft → List Literal → List Literal
 with_selector None lits = lits
-with_selector (Some s) lits = placed s.0 lits
+with_selector (Some s) lits = inserted s.0 lits
 
 -- the clause that blocks a set: the selectors of its groups, by ascending variable
 abbrev pub block_clause : List Soft → List ℕ → List Literal

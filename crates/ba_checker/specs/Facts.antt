@@ -1,4 +1,4 @@
--- What holds of every state that allowed steps lead to.
+-- What holds of every state after allowed steps.
 
 use Rattle.std.specs.Prelude.{◌≡◌, ◌≢◌, ℕ, ◌+◌, ◌^◌, ◌<◌, ◌≤◌, nat_eq, Bool, true, false, Some, List, [], ◌∷◌, ◌++◌, map, filter, length, get_or, All}
 use Rattle.std.specs.List.{IsDistinct}
@@ -14,7 +14,7 @@ use Rattle.ba_checker.specs.Splits.{split_clauses}
 use Rattle.ba_checker.specs.States.{Kept, State, is_lasting, clause_at, present}
 use Rattle.ba_checker.specs.Blocks.{lacks_group, set_weight, block_clauses}
 use Rattle.ba_choices.specs.Judges.{Judge}
-use Rattle.ba_checker.specs.Judging.{after}
+use Rattle.ba_checker.specs.StepRules.{after}
 
 -- the literals of the clauses, the deleted ones too
 abbrev pub all_lits : List Kept → List (List Literal)
@@ -38,14 +38,14 @@ AreDifferent (s ∷ ss) = Differs s.0.variable ss × AreDifferent ss
 abbrev pub AreAmong : ℕ → List Soft → Type 0
 AreAmong variables softs = All (λ (s : Soft). (1 ≤ s.0.variable) × (s.0.variable ≤ variables)) softs
 
--- positive literals of different variables up to a number; entries of weight 0 stand for none
+-- positive literals of different variables up to a number; entries of weight 0 are skipped
 pub record AreSelectors (variables : ℕ) (softs : List Soft) : Type 0 where
   pub positive : All (λ (s : Soft). s.0.negated ≡ false) (present softs)
   pub among : AreAmong variables (present softs)
   pub differ : AreDifferent (present softs)
 
--- what holds of every state of a checker; where memory refuses, nothing is said of its clauses. The learnt clauses, also
--- the deleted ones, hold wherever the lasting ones do
+-- What holds of every state of a checker. If memory ran out, nothing is said of its clauses. The learnt
+-- clauses, also the deleted ones, hold wherever the lasting ones do.
 pub record IsState (variables : ℕ) (clauses : List Kept) (groups softs : List Soft)
     (conflicts budget learnt : ℕ) (refused : Bool) : Type 0 where
   pub few : variables < 2 ^ 62
@@ -60,13 +60,13 @@ pub record IsState (variables : ℕ) (clauses : List Kept) (groups softs : List 
   pub within : conflicts ≤ budget
   pub learnt_within : learnt ≤ conflicts
 
--- what a derivation starts from: clauses and soft literals over the variables of the formula
+-- the start of a derivation: clauses and soft literals over the variables of the formula
 pub record IsStart (formula : Cnf) (softs : List Soft) : Type 0 where
   pub clauses : All (IsClause formula.variables) formula.clauses
   pub softs_among : AreAmong formula.variables (present softs)
   pub softs_differ : AreDifferent (present softs)
 
--- the clauses that a step adds to say what its fresh variables mean
+-- the clauses by which a step defines its fresh variables
 abbrev pub step_splits : State → CertStep → List (List Literal)
 step_splits s (Learn lits hints) = []
 step_splits s (Core lits hints) = split_clauses (s.variables + 1) lits
@@ -77,7 +77,7 @@ step_splits s (EndNoRepair hints) = []
 step_splits s EndTooMany = []
 step_splits s EndSpent = []
 
--- those of all steps
+-- the clauses by which all steps define their fresh variables
 abbrev pub splits_of : State → List CertStep → List (List Literal)
 splits_of s [] = []
 splits_of s (step ∷ steps) = step_splits s step ++ splits_of (after s step) steps
@@ -86,8 +86,8 @@ splits_of s (step ∷ steps) = step_splits s step ++ splits_of (after s step) st
 abbrev pub IsLive : List Kept → List Literal → Type 0
 IsLive clauses c = (number : ℕ) × (clause_at clauses number ≡ Some c)
 
--- what holds of a blocked set: ascending numbers of groups, whose weights make the bound, with a run that the judge calls
--- good
+-- What holds of a blocked set: its group numbers ascend, their weights sum up to the bound, and the judge
+-- calls its run good.
 pub record IsBlocked (good : Judge) (groups : List Soft) (bound : ℕ) (set : List ℕ) : Type 0 where
   pub ascends : AreAbove 0 set
   pub exist : lacks_group groups set ≡ false
@@ -95,12 +95,14 @@ pub record IsBlocked (good : Judge) (groups : List Soft) (bound : ℕ) (set : Li
   pub run : List Choice
   pub is_good : good set run ≡ true
 
--- The facts, where `Agree (n + 1)` says that two assignments give the variables up to n the same values:
--- (1) each assignment that satisfies the formula and the clauses of the blocked sets has exactly one extension to the fresh
--- variables that satisfies the clauses of all splits, and it satisfies every clause, the deleted ones too; (2) its cost is
--- the bound plus the weights of the present soft literals that are false under the extension; (3) the blocked sets differ,
--- and each has the bound as its weight, and a good run; (4) the present soft literals are of different variables that exist,
--- with weights of at least 1, and all clauses of the formula, of the splits and of the blocked sets are live
+-- The facts. `Agree (n + 1)` says that two assignments give the variables up to n the same values.
+-- - Each assignment that satisfies the formula and the blocking clauses has exactly one extension to the
+--   fresh variables that satisfies the clauses of all splits. It satisfies every clause, the deleted ones
+--   too.
+-- - Its cost is the bound plus the weights of the present soft literals that are false under the extension.
+-- - The blocked sets differ, and each has the weight of the bound, and a good run.
+-- - The present soft literals are of different existing variables, with weights of at least 1.
+-- - All clauses of the formula, of the splits and of the blocked sets are live.
 pub record Holds (good : Judge) (formula : Cnf) (softs : List Soft) (splits : List (List Literal))
     (s : State) : Type 0 where
   pub extends : (v : Assignment) → all_true v formula.clauses ≡ true →

@@ -4,7 +4,7 @@ pub mod Blocks
 pub mod Cuts
 pub mod Parts
 pub mod Listed
-pub mod Judging
+pub mod StepRules
 pub mod Looks
 pub mod Puts
 pub mod Facts

@@ -1,4 +1,5 @@
--- Clauses that are listed under one literal each, so that the parts of a clause are found by its own literals.
+-- Clauses listed under one literal each, so that clauses contained in a given one are found by its own
+-- literals.
 
 use Rattle.std.specs.Prelude.{◌≡◌, ℕ, ◌<◌, Bool, true, false, not, ◌&&◌, ◌||◌, eqb, ◌^◌, Option, None, Some, List, [], ◌∷◌, map, length, slice_index, slice_get, if◌then◌else◌}
 use Prim.Native.Nat.{suc, zero}
@@ -9,13 +10,15 @@ use Rattle.ba_checker.specs.Parts.{is_live_part}
 use Rattle.ba_checker.specs.declared.index.Keys.{Keys}
 use Rattle.ba_checker.specs.declared.index.Node.{Node}
 
--- what is kept of each clause: its keys, and the link to the one before it
+-- what is stored of each clause: its keys, and the link to the one before it
 abbrev pub keys_of : Node → Keys
 keys_of n = record { key = n.key; second = n.second; third = n.third }
 
+-- the keys of all nodes
 abbrev pub all_keys : List Node → List Keys
 all_keys nodes = map keys_of nodes
 
+-- the links of all nodes: the clause before in the list of the same literal
 abbrev pub links : List Node → List ℕ
 links nodes = map (λ (n : Node). n.earlier) nodes
 
@@ -23,12 +26,12 @@ links nodes = map (λ (n : Node). n.earlier) nodes
 abbrev pub firsts : List Keys → List ℕ
 firsts all = map (λ (k : Keys). k.key) all
 
--- the latest place below n with this key, plus 1; 0 where there is none
+-- the latest index below n with this key, plus 1; 0 if there is none
 abbrev pub latest : List ℕ → ℕ → ℕ → ℕ
 latest keys key zero = 0
 latest keys key (suc n) = if eqb (slice_index keys n) key then suc n else latest keys key n
 
--- the heads lead to the latest place of each key, and each place to the one before it with its key
+-- the heads lead to the latest index of each key, and each index to the one before it with its key
 pub record AreLinks (keys heads earlier : List ℕ) : Type 0 where
   pub same : length earlier ≡ length keys
   pub few : length keys < 2 ^ 32
@@ -41,10 +44,11 @@ abbrev pub is_key : ℕ → List Literal → Bool
 is_key key [] = eqb key 0
 is_key key (l ∷ ls) = has_index key (l ∷ ls)
 
+-- the keys are literals of the clause
 abbrev pub are_keys : Keys → List Literal → Bool
 are_keys k lits = is_key k.key lits && (is_key k.second lits && is_key k.third lits)
 
--- a live clause is listed under one of its keys, with two further ones beside, a deleted one anywhere
+-- a live clause is listed under one of its keys, with two further keys; a deleted one is listed anywhere
 abbrev pub is_listed : Keys → Kept → Bool
 is_listed k c = not (is_live_origin c.origin) || are_keys k c.lits
 
@@ -55,10 +59,11 @@ AreListed [] (c ∷ cs) = ⊥
 AreListed (k ∷ ks) [] = ⊥
 AreListed (k ∷ ks) (c ∷ cs) = (is_listed k c ≡ true) × AreListed ks cs
 
--- what is kept of a clause that is listed anew: it comes under 1 where it doesn't keep its key
+-- what is stored of a clause that is listed anew: its key is 1 if it doesn't keep its own
 abbrev pub key_anew : Bool → ℕ → ℕ
 key_anew keeps key = if keeps then key else 1
 
+-- a node that is listed anew, before the present head of its list
 abbrev pub anew : Bool → Node → List ℕ → Node
 anew keeps n heads = record {
   key = key_anew keeps n.key;
@@ -68,7 +73,7 @@ anew keeps n heads = record {
       slice_index heads (key_anew keeps n.key);
 }
 
--- the clauses below place n are linked, where all were
+-- the clauses below index n are linked, if all were
 pub record AreLinkedBelow (n : ℕ) (all : List Keys) (heads earlier : List ℕ) (clauses : List Kept) : Type 0
   where
     pub same : length earlier ≡ length all
@@ -79,15 +84,16 @@ pub record AreLinkedBelow (n : ℕ) (all : List Keys) (heads earlier : List ℕ)
     pub room : (place : ℕ) → place < length all → slice_index (firsts all) place < length heads
     pub listed : AreListed all clauses
 
--- a live clause stands at the place, and has all its literals in these
+-- a live clause is at the index, and has all its literals in these
 abbrev pub is_entry_part : Option Kept → List Literal → Bool
 is_entry_part None lits = false
 is_entry_part (Some k) lits = is_live_part k lits
 
+-- the clause at this index is live and contained in these literals
 abbrev pub is_part_at : List Kept → ℕ → List Literal → Bool
 is_part_at clauses place lits = is_entry_part (slice_get clauses place) lits
 
--- a live clause below place n, listed under the key, has all its literals in these
+-- a live clause below index n, listed under the key, has all its literals in these
 abbrev pub any_listed : List Kept → List ℕ → ℕ → List Literal → ℕ → Bool
 any_listed clauses keys key lits zero = false
 any_listed clauses keys key lits (suc n) =

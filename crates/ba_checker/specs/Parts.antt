@@ -1,4 +1,4 @@
--- When a clause holds another.
+-- Containment of clauses.
 
 use Rattle.std.specs.Prelude.{Bool, ◌&&◌, List}
 use Rattle.std.specs.List.{list_any, list_all}

@@ -8,36 +8,38 @@ use Rattle.ba_lits.specs.Formulas.{Cnf}
 use Rattle.ba_checker.specs.declared.store.Origin.{Origin}
 use Rattle.ba_checker.specs.declared.store.Origin.TheVariants.{Given, Learnt, Core, Split, Blocked, Deleted}
 
--- a clause with where it comes from, or that it was deleted
+-- a clause with its origin, which tells also that it was deleted
 pub record Kept : Type 0 where
   pub lits : List Literal
   pub origin : Origin
 
+-- a clause of this origin
 abbrev pub kept : Origin → List Literal → Kept
 kept origin lits = record { lits = lits; origin = origin }
 
+-- the state of a derivation
 pub record State : Type 0 where
   -- how many variables there are
   pub variables : ℕ
   -- the clauses in the order of their numbers, which begin at 1, the deleted ones too
   pub clauses : List Kept
-  -- the soft literals as they were given, by written number, and the present ones with their weights
+  -- the soft literals as given, by group number, and the present ones with their weights
   pub groups : List Soft
   pub softs : List Soft
   -- the lower bound of every cost that the cores have shown
   pub bound : ℕ
   -- the blocked sets
   pub sets : List (List ℕ)
-  -- the Learn and Core steps so far, and how many there may be
+  -- the Learn and Core steps so far, and the limit on them
   pub conflicts : ℕ
   pub budget : ℕ
   -- the Learn steps since the last deletion
   pub learnt : ℕ
-  -- how many least sets there may be
+  -- the limit on least sets
   pub most_sets : ℕ
   -- an End step was taken
   pub ended : Bool
-  -- memory ran out, and every step is refused from then on
+  -- memory ran out: every step is refused from now on
   pub refused : Bool
 
 -- the entry of a number, from 1 on
@@ -45,11 +47,12 @@ abbrev pub kept_at : List Kept → ℕ → Option Kept
 kept_at clauses zero = None
 kept_at clauses (suc k) = slice_get clauses k
 
--- the clause at a place, from 0 on; none past the end
+-- the literals of the clause at an index, from 0 on; none past the end
 abbrev pub lits_of : Option Kept → List Literal
 lits_of None = []
 lits_of (Some k) = k.lits
 
+-- the literals of the clause at this index, none beyond the end
 abbrev pub lits_at : List Kept → ℕ → List Literal
 lits_at clauses place = lits_of (slice_get clauses place)
 
@@ -62,15 +65,17 @@ is_live_origin Split = true
 is_live_origin Blocked = true
 is_live_origin Deleted = false
 
+-- the literals of an entry that is live
 abbrev pub live_lits : Option Kept → Option (List Literal)
 live_lits None = None
 live_lits (Some k) = if is_live_origin k.origin then Some k.lits else None
 
--- a live clause stands at the place, from 0 on
+-- a live clause is at the index, from 0 on
 abbrev pub is_live_entry : Option Kept → Bool
 is_live_entry None = false
 is_live_entry (Some k) = is_live_origin k.origin
 
+-- the clause at this index is live
 abbrev pub is_live_at : List Kept → ℕ → Bool
 is_live_at clauses place = is_live_entry (slice_get clauses place)
 
@@ -78,6 +83,7 @@ is_live_at clauses place = is_live_entry (slice_get clauses place)
 abbrev pub clause_at : List Kept → ℕ → Option (List Literal)
 clause_at clauses number = live_lits (kept_at clauses number)
 
+-- the origin is that of a learnt clause
 abbrev pub is_learnt_origin : Origin → Bool
 is_learnt_origin Given = false
 is_learnt_origin Learnt = true
@@ -86,12 +92,13 @@ is_learnt_origin Split = false
 is_learnt_origin Blocked = false
 is_learnt_origin Deleted = false
 
+-- the entry is a learnt clause that is live
 abbrev pub is_learnt_entry : Option Kept → Bool
 is_learnt_entry None = false
 is_learnt_entry (Some k) = is_learnt_origin k.origin
 
--- whether no Learn step made the clause: it is one of the formula, a core, one of a split or that of a blocked set, and is
--- never deleted
+-- no Learn step made the clause: it is of the formula, a core, of a split or of a blocked set, and is never
+-- deleted
 abbrev pub is_lasting_origin : Origin → Bool
 is_lasting_origin Given = true
 is_lasting_origin Learnt = false
@@ -100,10 +107,11 @@ is_lasting_origin Split = true
 is_lasting_origin Blocked = true
 is_lasting_origin Deleted = false
 
+-- the clause is of an origin that no step deletes
 abbrev pub is_lasting : Kept → Bool
 is_lasting k = is_lasting_origin k.origin
 
--- the number is that of a live clause made by a Learn step
+-- a live clause that a Learn step made has the number
 abbrev pub is_learnt_at : List Kept → ℕ → Bool
 is_learnt_at clauses number = is_learnt_entry (kept_at clauses number)
 
@@ -121,7 +129,7 @@ abbrev pub without_all : List Kept → List ℕ → List Kept
 without_all clauses [] = clauses
 without_all clauses (number ∷ numbers) = without_all (without clauses number) numbers
 
--- a soft literal of weight 0 stands for none
+-- the soft literals of a weight above 0
 abbrev pub present : List Soft → List Soft
 present softs = filter (λ (s : Soft). ltb 0 s.1) softs
 

@@ -3,13 +3,13 @@
 ghost use Rattle.std.specs.Prelude.{◌≡◌, ◌≤◌, ◌==◌, List, OnOk, IfOk, insert, length, nat_eq};
 ghost use Rattle.std.specs.List.{list_any};
 ghost use Rattle.std.specs.Cmp.Lexicographic.{pointwise};
-ghost use Rattle.ba_checker.specs.Blocks.{entry_of, weight_at, set_weight, lacks_group, is_among, placed, with_selector, block_clause};
+ghost use Rattle.ba_checker.specs.Blocks.{entry_of, weight_at, set_weight, lacks_group, is_among, inserted, with_selector, block_clause};
 
 use ba_items::Items;
 use ba_lits::Lit;
 use std::alloc::{AllocError, Global};
 
-/// The entry of a group, by its number, from 1 on; None where there is none.
+/// The entry of a group, by its number, from 1 on; `None` if there is none.
 fn entry_of(groups: &[(Lit, u32)], number: u32) -> Option<(Lit, u32)>
     ensures { result ≡ entry_of groups.now number }
 {
@@ -19,7 +19,7 @@ fn entry_of(groups: &[(Lit, u32)], number: u32) -> Option<(Lit, u32)>
     groups.get(number as usize - 1).copied()
 }
 
-/// The weight of a group; 0 where there is none.
+/// The weight of a group; 0 if there is none.
 fn weight_at(groups: &[(Lit, u32)], number: u32) -> u32
     ensures { result ≡ weight_at groups.now number }
 {
@@ -29,14 +29,14 @@ fn weight_at(groups: &[(Lit, u32)], number: u32) -> u32
     }
 }
 
-/// Whether a number of the set is that of no group.
+/// Whether a number of the set names no group.
 pub fn lacks_group(groups: &[(Lit, u32)], set: &[u32]) -> bool
     ensures { result ≡ lacks_group groups.now set.now }
 {
     set.iter().any(|group| weight_at(groups, *group) == 0)
 }
 
-/// The weights of the groups of a set together.
+/// The sum of the weights of a set's groups.
 pub fn set_weight(groups: &[(Lit, u32)], set: &[u32]) -> u128
     ensures { result ≡ set_weight groups.now set.now }
 {
@@ -69,21 +69,21 @@ pub fn block_clause(
     Ok(lits)
 }
 
-/// Adds the selector of an entry, where there is one, to literals of ascending variables.
+/// Inserts the selector of an entry, if there is one, into literals of ascending variables.
 fn add_selector(lits: &mut Vec<Lit>, entry: Option<(Lit, u32)>) -> Result<(), AllocError>
     ensures { OnOk result (lits.new.items ≡ with_selector entry lits.old.items) }
 {
     if let Some((lit, _)) = entry {
-        let place = place_of(lits.as_slice(), lit);
+        let place = insertion_index(lits.as_slice(), lit);
         lits.insert(place, lit)?;
     }
     Ok(())
 }
 
-/// Where a literal is placed among literals of ascending variables.
-fn place_of(lits: &[Lit], lit: Lit) -> usize
+/// The index of a literal among literals of ascending variables.
+fn insertion_index(lits: &[Lit], lit: Lit) -> usize
     ensures within { result ≤ length lits.now }
-    ensures place { insert lits.now result lit ≡ placed lit lits.now }
+    ensures place { insert lits.now result lit ≡ inserted lit lits.now }
 {
     for (place, other) in lits.iter().enumerate() {
         if lit.variable() < other.variable() {

@@ -1,16 +1,16 @@
-//! A checker whose allowed steps go to a sink.
+//! A checker that hands its allowed steps to a sink.
 
 ghost use Rattle.std.specs.Prelude.{◌≡◌, true, false, None};
 ghost use Rattle.ba_steps.specs.Steps.{IsFormed};
-ghost use Rattle.ba_checker.specs.Judging.{error_of, after};
+ghost use Rattle.ba_checker.specs.StepRules.{error_of, after};
 ghost use Rattle.ba_checker.specs.Puts.{Checking, HandsOn, IsAllowed, Puts, log_of, refusal_of};
 
 use crate::checker::Checker;
 use ba_steps::{CertStep, RunJudge, SinkError, StepSink};
 use std::marker::Model;
 
-/// A checker, with a judge of runs and a sink. Each step goes through the checker and then to the sink. After a refusal
-/// every further step is refused in the same way.
+/// A checker, with a judge of runs and a sink. Each step goes to the checker and then to the sink. After a
+/// refusal every further step is refused in the same way.
 pub struct Checked<S: StepSink, J: RunJudge> {
     checker: Checker,
     judge: J,
@@ -43,7 +43,7 @@ impl<S: StepSink, J: RunJudge> Model for Checked<S, J> {
 }
 
 impl<S: StepSink + Drop, J: RunJudge + Drop> Checked<S, J> {
-    /// Puts the three together. It takes no memory.
+    /// The three together. It takes no memory.
     pub fn new(checker: Checker, judge: J, sink: S) -> Checked<S, J>
         ensures { result ≡ record {
           checker = checker;
@@ -83,11 +83,13 @@ impl<S: StepSink, J: RunJudge> Checked<S, J> {
         &self.checker
     }
 
-    /// Puts a step that is allowed through the checker, and hands it to the sink.
+    /// Puts an allowed step to the checker, and hands it to the sink.
     ///
-    /// `Failed` comes only where the sink's faults rose in this call, or answered an earlier one; the checker has then
-    /// taken the step, and some of the sink's logs may hold it. After want of memory the checker has taken the step or
-    /// answers `Memory` from then on. After a refusal nothing changes any more, and the answer stays the same.
+    /// - `Failed`: only if the sink's faults rose in this call, or `Failed` was answered before. The checker
+    ///   has then taken the step, and some of the sink's logs may hold it.
+    /// - `Memory`: memory ran out. The checker has taken the step, or answers `Memory` from then on.
+    ///
+    /// After a refusal nothing changes any more, and the answer stays the same.
     pub fn put(&mut self, step: &CertStep) -> Result<(), SinkError>
         requires formed { IsFormed step.now }
         requires allowed { self.old.refusal ≡ None
@@ -115,17 +117,17 @@ impl<S: StepSink, J: RunJudge> Checked<S, J> {
     }
 }
 
-/// A log of proofs, to which the steps of a derivation go one by one. A checker, a judge of runs and a sink of steps
-/// implement it together ([`Checked`]). Steps that learn or delete clauses, and cores, ask no judge.
+/// A log of proofs, to which the steps of a derivation go one by one. A checker, a judge of runs and a sink
+/// implement it together ([`Checked`]). Learn, Delete and Core steps ask no judge.
 pub trait ProofLog {
-    // The checker, which runs the judge accepts, and what the sink tells.
+    // The checker, the runs that its judge accepts, and what the sink tells.
     ghost log: { Self → Checking };
 
     /// The checker.
     fn checker(&self) -> &Checker
         ensures { result.now ≡ (log self.now).checker };
 
-    /// Puts a step that is allowed, as [`Checked::put`] does.
+    /// Puts an allowed step, as [`Checked::put`] does.
     fn put(&mut self, step: &CertStep) -> Result<(), SinkError>
         requires formed { IsFormed step.now }
         requires allowed { (log self.old).refusal ≡ None → IsAllowed step.now (log self.old) }
@@ -151,7 +153,7 @@ impl<S: StepSink, J: RunJudge> ProofLog for Checked<S, J> {
     }
 }
 
-/// Puts a step that is allowed through the checker. False where there was no memory.
+/// Puts an allowed step to the checker. It answers false if memory ran out.
 fn advance<J: RunJudge>(checker: &mut Checker, step: &CertStep, judge: &J) -> bool
     requires formed { IsFormed step.now }
     requires allowed { checker.old.refused ≡ false
@@ -163,7 +165,7 @@ fn advance<J: RunJudge>(checker: &mut Checker, step: &CertStep, judge: &J) -> bo
     checker.accept(step, judge).is_ok()
 }
 
-/// The refusal that an answer is.
+/// The refusal of an answer.
 fn refusal_of(answer: &Result<(), SinkError>) -> Option<SinkError>
     ensures { result ≡ refusal_of answer.now }
 {

@@ -1,4 +1,4 @@
-//! The checker of derivations.
+//! The checker of derivations: reverse unit propagation with hints, core steps and blocked sets.
 
 ghost use Rattle.std.specs.Prelude.{◌≡◌, ◌+◌, ◌<◌, ◌++◌, ◌==◌, ◌^◌, [], ◌∷◌, map, not, true, ltb, ◌≤◌, false, All, IfSome, IfOk, OnOk, length, option_copied};
 ghost use Rattle.std.specs.List.{list_any};
@@ -8,9 +8,9 @@ ghost use Rattle.ba_lits.specs.Satisfaction.{Soft};
 ghost use Rattle.ba_steps.specs.Steps.{IsFormed, AreFormedLits, AreAbove};
 ghost use Rattle.ba_checker.specs.States.{first_state, present, clause_at, is_learnt_at, kept};
 ghost use Rattle.ba_checker.specs.Facts.{AreSelectors, AreAmong, AreDifferent, IsState};
-ghost use Rattle.ba_checker.specs.Judging.{Answers, Finds, Does, KeepsMemory, is_memory, is_spent, are_too_many, lacks_variable, lacks_soft, error_of, error_before_end, after, MayBeLearnt};
-ghost use Rattle.ba_checker.specs.Judging.{learn_error, core_error, delete_error, block_error, located_error, no_repair_error, too_many_error, spent_error};
-ghost use Rattle.ba_checker.specs.Judging.{after_learn, after_core, after_delete, after_block};
+ghost use Rattle.ba_checker.specs.StepRules.{Answers, Finds, Does, KeepsMemory, is_memory, is_spent, are_too_many, lacks_variable, lacks_soft, error_of, error_before_end, after, MayBeLearnt};
+ghost use Rattle.ba_checker.specs.StepRules.{learn_error, core_error, delete_error, block_error, located_error, no_repair_error, too_many_error, spent_error};
+ghost use Rattle.ba_checker.specs.StepRules.{after_learn, after_core, after_delete, after_block};
 ghost use Rattle.ba_checker.specs.Blocks.{lacks_group};
 ghost use Rattle.ba_checker.specs.declared.store.Origin.TheVariants as origins;
 
@@ -29,7 +29,7 @@ use std::marker::Model;
 /// How many clauses are learnt before a deletion, and between two.
 pub const APART_BY: u64 = 1000;
 
-/// The state of a derivation, to which steps are put one after the other.
+/// The state of a derivation, which steps change one after the other.
 pub struct Checker {
     alloc: Global,
     variables: u64,
@@ -94,10 +94,11 @@ impl Model for Checker {
 }
 
 impl Checker {
-    /// The state before the first step: the clauses of the formula, with numbers from 1 on, and the soft literals of
-    /// a weight above 0, which are positive and of different variables of the formula. `conflicts` is how many Learn and Core steps there may be, `sets` how many least sets.
+    /// The state before the first step: the clauses of the formula, with numbers from 1 on, and the soft
+    /// literals of a weight above 0. These are positive and of different variables of the formula.
+    /// `conflicts` is the limit on Learn and Core steps, `sets` the limit on least sets.
     ///
-    /// The one error is want of memory.
+    /// The only error is out of memory.
     pub fn new(
         alloc: Global,
         formula: &Formula,
@@ -130,11 +131,12 @@ impl Checker {
         })
     }
 
-    /// Takes a step. Ok exactly where it is allowed, and the state is then the one after it; else the first error, and
-    /// the state is as before. The judge is asked for the run of a Block step alone, and after all its other tests.
+    /// Takes a step. The answer is `Ok` exactly if the step is allowed, and the state is then the one after
+    /// it. Else it is the first error, and the state is as before. The judge is asked only for the run of a
+    /// Block step, after all other tests.
     ///
-    /// It may answer `Memory` in place of either, where the judge or the checker finds no memory, and answers it to every
-    /// step from then on. A Delete step takes no memory.
+    /// `Memory` may be answered instead, if the judge or the checker runs out of memory. It is then the
+    /// answer to every further step. A Delete step takes no memory.
     pub fn step<J: RunJudge>(&mut self, step: &CertStep, judge: &J) -> Result<(), StepError>
         requires formed { IsFormed step.now }
         ensures exactly { Answers (J.accepts judge.now) self.old step.now self.new result }
@@ -151,10 +153,11 @@ impl Checker {
         result
     }
 
-    /// Takes a step that is known to be allowed, as `step` does. What is known of a clause to learn is not tested again:
-    /// that it is new, and that it follows by its hints.
+    /// Takes a step that is known to be allowed, as `step` does. The clause of a Learn step is not tested
+    /// again: that it is new, and that it follows by its hints.
     ///
-    /// The one error is `Memory`, which is the answer to every step from then on. A Delete step takes no memory.
+    /// The only error is `Memory`, which is the answer to every step from then on. A Delete step takes no
+    /// memory.
     pub fn accept<J: RunJudge>(&mut self, step: &CertStep, judge: &J) -> Result<(), StepError>
         requires formed { IsFormed step.now }
         requires allowed { self.old.refused ≡ false
@@ -195,7 +198,7 @@ impl Checker {
         self.conflicts
     }
 
-    /// How many variables there are, those that cores brought among them.
+    /// How many variables there are, the fresh ones of cores included.
     pub fn variables(&self) -> u64
         ensures variables { result ≡ self.now.variables }
         ensures below { result < 2 ^ 62 }
@@ -210,7 +213,7 @@ impl Checker {
         self.sets.as_slice()
     }
 
-    /// How many Learn and Core steps there may be: the number that [`new`](Checker::new) was given.
+    /// The limit on Learn and Core steps: the number that [`new`](Checker::new) was given.
     pub fn budget(&self) -> u64
         ensures { result ≡ self.now.budget }
     {
@@ -232,7 +235,7 @@ impl Checker {
         self.learnt
     }
 
-    /// The live clause of a number; None exactly where there is none.
+    /// The live clause of a number; `None` exactly if there is none.
     pub fn clause(&self, number: u64) -> Option<&[Lit]>
         ensures clause { option_copied result ≡ clause_at self.now.clauses number }
         ensures formed { self.now.refused ≡ false
@@ -241,14 +244,14 @@ impl Checker {
         self.clauses.clause(number)
     }
 
-    /// Whether the number is that of a live clause made by a Learn step.
+    /// Whether a live clause that a Learn step made has the number.
     pub fn is_learnt(&self, number: u64) -> bool
         ensures { result ≡ is_learnt_at self.now.clauses number }
     {
         self.clauses.is_learnt(number)
     }
 
-    /// What holds of every checker. It does nothing.
+    /// Law: what holds of every checker. It does nothing.
     pub fn keeps_facts(&self)
         ensures { IsState self.now.variables self.now.clauses self.now.groups self.now.softs
             self.now.conflicts self.now.budget self.now.learnt self.now.refused }
@@ -263,7 +266,7 @@ impl Checker {
         self.conflicts == self.budget
     }
 
-    /// Takes a step before the end.
+    /// Takes a step while the derivation has not ended.
     fn attempt<J: RunJudge>(&mut self, step: &CertStep, judge: &J) -> Result<(), StepError>
         requires formed { IsFormed step.now }
         requires awake { self.old.refused ≡ false }
@@ -287,7 +290,7 @@ impl Checker {
         }
     }
 
-    /// Takes a step before the end that is allowed.
+    /// Takes an allowed step while the derivation has not ended.
     fn attempt_allowed<J: RunJudge>(&mut self, step: &CertStep, judge: &J) -> Result<(), StepError>
         requires formed { IsFormed step.now }
         requires awake { self.old.refused ≡ false }
@@ -536,7 +539,7 @@ impl Checker {
         Ok(())
     }
 
-    /// Whether the blocked sets are one more than there may be least sets.
+    /// Whether the blocked sets are one more than allowed.
     fn are_too_many(&self) -> bool
         ensures { result ≡ are_too_many self.now }
     {
@@ -556,7 +559,7 @@ impl Checker {
     }
 }
 
-/// Whether an answer is want of memory.
+/// Whether an answer is out of memory.
 fn is_memory(answer: &Result<(), StepError>) -> bool
     ensures { result ≡ is_memory answer.now }
 {
@@ -570,7 +573,7 @@ fn lacks_variable(variables: u64, lits: &[Lit]) -> bool
     lits.iter().any(|lit| variables < lit.variable())
 }
 
-/// Whether a literal isn't the negation of a soft literal. It uses the set.
+/// Whether a literal isn't the negation of a soft literal. It overwrites the set.
 fn lacks_soft(set: &mut LiteralSet, softs: &[(Lit, u32)], lits: &[Lit]) -> Result<bool, AllocError>
     ensures { IfOk result (λ lacks. lacks ≡ lacks_soft softs.now lits.now) }
 {
@@ -585,7 +588,7 @@ fn lacks_negation(set: &LiteralSet, lits: &[Lit]) -> bool
     lits.iter().any(|lit| !set.contains(lit.negated()))
 }
 
-/// Makes the set that of the soft literals.
+/// Fills the set with the soft literals.
 fn refill_softs(set: &mut LiteralSet, softs: &[(Lit, u32)]) -> Result<(), AllocError>
     ensures { OnOk result (set.new ≡ map (λ (s : Soft). s.0) softs.now) }
 {

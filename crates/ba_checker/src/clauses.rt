@@ -14,9 +14,9 @@ use ba_lits::{Lit, LiteralSet};
 use std::alloc::{AllocError, Global};
 use std::marker::Model;
 
-/// The clauses in the order of their numbers, which begin at 1. Each is listed under that of its literals under which
-/// the fewest were, so a clause whose literals all stand in a given one is found in the time of a few short lists.
-/// Deleted clauses keep their places; what stands in these lists is made anew after each deletion.
+/// The clauses in the order of their numbers, which begin at 1. Each is listed under its literal with the
+/// fewest clauses so far. So a clause contained in a given one is found in the time of a few short lists.
+/// Deleted clauses keep their indices; the lists are made anew after each deletion.
 pub struct Clauses {
     store: Store,
     index: Index,
@@ -78,21 +78,22 @@ impl Clauses {
         Ok(())
     }
 
-    /// The live clause of a number; None exactly where there is none.
+    /// The live clause of a number; `None` exactly if there is none.
     pub fn clause(&self, number: u64) -> Option<&[Lit]>
         ensures { option_copied result ≡ clause_at self.now number }
     {
         self.store.clause(number)
     }
 
-    /// Whether the number is that of a live clause made by a Learn step.
+    /// Whether a live clause that a Learn step made has the number.
     pub fn is_learnt(&self, number: u64) -> bool
         ensures { result ≡ is_learnt_at self.now number }
     {
         self.store.is_learnt(number)
     }
 
-    /// Whether each of these numbers is that of a live clause made by a Learn step, of at least three literals.
+    /// Whether each of these numbers is that of a live clause of at least three literals that a Learn step
+    /// made.
     pub fn may_all_go(&self, numbers: &[u64]) -> bool
         ensures { result ≡ list_all (λ (n : ℕ). is_learnt_at self.now n
             && ltb 2 (width_at self.now n)) numbers.now }
@@ -100,7 +101,7 @@ impl Clauses {
         numbers.iter().all(|number| self.may_go(*number))
     }
 
-    /// Whether the number is that of a live clause made by a Learn step, of at least three literals.
+    /// Whether the number is that of a live clause of at least three literals that a Learn step made.
     fn may_go(&self, number: u64) -> bool
         ensures { result ≡ (is_learnt_at self.now number && ltb 2 (width_at self.now number)) }
     {
@@ -125,7 +126,7 @@ impl Clauses {
     }
 }
 
-/// Whether all literals of some live clause that is listed under one of these literals are members of the set.
+/// Whether some live clause that is listed under one of these literals has only members of the set.
 fn lists_any(store: &Store, index: &Index, lits: &[Lit], set: &LiteralSet) -> bool
     requires { AreListed index.now store.now }
     ensures { result ≡ under_any store.now (firsts index.now) set.now (length index.now) lits.now }
@@ -138,7 +139,7 @@ fn lists_any(store: &Store, index: &Index, lits: &[Lit], set: &LiteralSet) -> bo
     false
 }
 
-/// The keys of a clause: of its literals that under which the fewest clauses are listed, and two further ones.
+/// The keys of a clause: the literal under which the fewest clauses are listed, and two further ones.
 fn choose_keys(index: &Index, lits: &[Lit]) -> Keys
     ensures { are_keys result lits.now ≡ true }
 {
@@ -154,7 +155,7 @@ fn choose_keys(index: &Index, lits: &[Lit]) -> Keys
     all
 }
 
-/// The keys with one more in place of the second last.
+/// The keys, with a new one in place of the second last.
 fn with_further(keys: Keys, further: usize) -> Keys
     ensures { (lits : List Literal) → are_keys keys lits ≡ true → is_key further lits ≡ true
         → are_keys result lits ≡ true }
@@ -169,7 +170,7 @@ fn with_further(keys: Keys, further: usize) -> Keys
     }
 }
 
-/// A key of a clause: of its literals that under which the fewest clauses are listed.
+/// The key of a clause: the literal under which the fewest clauses are listed.
 fn rarest(index: &Index, lits: &[Lit]) -> usize
     ensures { is_key result lits.now ≡ true }
 {
@@ -183,7 +184,7 @@ fn rarest(index: &Index, lits: &[Lit]) -> usize
     best
 }
 
-/// Of two keys that under which fewer clauses are listed.
+/// The one of two keys under which fewer clauses are listed.
 fn rarer(index: &Index, a: usize, b: usize) -> usize
     ensures { (P : ℕ → Bool) → P a ≡ true → P b ≡ true → P result ≡ true }
 {
@@ -194,7 +195,7 @@ fn rarer(index: &Index, a: usize, b: usize) -> usize
     }
 }
 
-/// Whether all literals of some live clause that is listed under a key are members of the set.
+/// Whether some live clause that is listed under a key has only members of the set.
 fn lists_part(store: &Store, index: &Index, key: usize, set: &LiteralSet) -> bool
     requires { AreListed index.now store.now }
     ensures { result ≡ any_listed store.now (firsts index.now) key set.now (length index.now) }
@@ -210,8 +211,8 @@ fn lists_part(store: &Store, index: &Index, key: usize, set: &LiteralSet) -> boo
     false
 }
 
-/// Whether the clause at a place is live and all its literals are members of the set. Most clauses are known not to be
-/// by a further key, without a look at their literals.
+/// Whether the clause at an index is live and has only members of the set. A further key tells for most
+/// clauses that it is not so, without a look at their literals.
 fn is_listed_part(store: &Store, index: &Index, place: usize, set: &LiteralSet) -> bool
     requires listed { AreListed index.now store.now }
     requires within { place < length store.now }
@@ -234,7 +235,7 @@ fn may_hold(key: usize, further: usize, set: &LiteralSet) -> bool
     key == further || set.contains_index(further)
 }
 
-/// Whether the clause at a place is live and all its literals are members of the set.
+/// Whether the clause at an index is live and has only members of the set.
 fn is_live_part(store: &Store, place: usize, set: &LiteralSet) -> bool
     requires { place < length store.now }
     ensures { result ≡ is_part_at store.now place set.now }

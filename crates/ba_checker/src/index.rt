@@ -9,8 +9,8 @@ use ba_items::fill_up;
 use std::alloc::{AllocError, Global};
 use std::marker::Model;
 
-/// The indices of up to three literals of a clause: that under which it is listed, and two further ones, which are the
-/// same where the clause has no more. Those of the empty clause are 0.
+/// The indices of up to three literals of a clause: that under which it is listed, and two further ones. They
+/// repeat if the clause has fewer. Those of the empty clause are 0.
 #[derive(Clone, Copy)]
 pub struct Keys {
     pub key: usize,
@@ -27,8 +27,8 @@ pub struct Node {
     earlier: u32,
 }
 
-/// For each clause, by its place, the keys under which it is listed. The clauses of a first key are linked from the
-/// latest to the earliest: links are places plus 1, and 0 where there is none. Contracts see the list of the keys.
+/// The keys of each clause, by its index. The clauses of a first key are linked from the latest to the
+/// earliest. Links are indices plus 1, and 0 if there is none. A contract sees the list of the keys.
 pub struct Index {
     nodes: Vec<Node>,
     heads: Vec<u32>,
@@ -78,7 +78,7 @@ impl Index {
         fill_up(&mut self.counts, keys, 0)
     }
 
-    /// How many clauses are listed under a key, as far as 2^32 - 1.
+    /// How many clauses are listed under a key, at most 2^32 - 1.
     pub fn count(&self, key: usize) -> u32 {
         match self.counts.get(key) {
             None => 0,
@@ -88,7 +88,7 @@ impl Index {
 
     /// Lists the next clause.
     ///
-    /// The one error is want of memory or of room, which is for 2^32 - 1 clauses and keys.
+    /// The only error is out of memory, also if 2^32 - 1 clauses or keys would be passed.
     pub fn push(&mut self, keys: Keys) -> Result<(), AllocError>
         ensures ok { OnOk result (self.new ≡ self.old ++ keys ∷ []) }
         ensures err { OnErr result (self.new ≡ self.old) }
@@ -106,7 +106,7 @@ impl Index {
         Ok(())
     }
 
-    /// Takes back the last clause that was listed.
+    /// Removes the last clause that was listed.
     pub fn pop(&mut self)
         ensures { (all : List Keys) (keys : Keys) → self.old ≡ all ++ keys ∷ [] → self.new ≡ all }
     {
@@ -116,8 +116,8 @@ impl Index {
         relink(&mut self.heads, node.key as usize, node.earlier);
     }
 
-    /// Lists the clauses anew, those that are no longer live under 1. That is no literal of a clause, so they are not
-    /// looked at any more. It takes no memory.
+    /// Lists the clauses anew, those that are no longer live under 1. No literal has that index, so they are
+    /// not visited any more. It takes no memory.
     pub fn relist(&mut self, store: &Store)
         requires { AreListed self.old store.now }
         ensures { AreListed self.new store.now }
@@ -132,7 +132,7 @@ impl Index {
         link(self.heads.as_slice(), key)
     }
 
-    /// The clause that is listed before the one at a place, under its key.
+    /// The clause that is listed before the one at an index, under its key.
     pub fn before(&self, place: usize) -> u32
         requires { place < length self.now }
         ensures { result ≡ latest (firsts self.now) (slice_index (firsts self.now) place) place }
@@ -140,7 +140,7 @@ impl Index {
         self.nodes[place].earlier
     }
 
-    /// The keys of the clause at a place.
+    /// The keys of the clause at an index.
     pub fn keys(&self, place: usize) -> Keys
         requires { place < length self.now }
         ensures { result ≡ slice_index_or self.now place result }
@@ -160,7 +160,7 @@ fn unpacked(node: Node) -> Keys
     }
 }
 
-/// The node of keys. The one error is want of room.
+/// The node of keys. The only error is that a key needs more than 32 bits.
 fn packed(keys: Keys, earlier: u32) -> Result<Node, AllocError>
     ensures { IfOk result (λ node. (keys_of node ≡ keys) × (node.earlier ≡ earlier)
         × (keys.key < 2 ^ 32 - 1)) }
@@ -198,7 +198,7 @@ fn link_all(nodes: &mut Vec<Node>, heads: &mut Vec<u32>, counts: &mut Vec<u32>, 
     }
 }
 
-/// Whether a clause that is listed anew keeps its key: where it is live, or where the table has no room for 1.
+/// Whether a clause that is listed anew keeps its key: it is live, or the table has no room for 1.
 fn keeps_key(store: &Store, place: usize, heads: &[u32]) -> bool
     requires { place < length store.now }
     ensures { result ≡ (is_live_at store.now place || ltb (length heads.now) 2) }
@@ -226,7 +226,7 @@ fn key_anew(keeps: bool, key: u32) -> u32
     if keeps { key } else { 1 }
 }
 
-/// The link at a place, or 0 past the end.
+/// The link at an index, or 0 past the end.
 fn link(links: &[u32], place: usize) -> u32
     ensures { result ≡ slice_index links.now place }
 {
@@ -241,7 +241,7 @@ fn clear(links: &mut Vec<u32>)
     links.fill(0);
 }
 
-/// Sets the link at a place.
+/// Sets the link at an index.
 fn relink(links: &mut Vec<u32>, place: usize, link: u32)
     ensures { links.new.items ≡ set links.old.items place link }
 {

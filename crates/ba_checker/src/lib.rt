@@ -1,11 +1,13 @@
-//! Derivations, judged step by step and without search.
+//! A proof checker for clauses by reverse unit propagation with hints, with core steps of MaxSAT resolution
+//! and steps that block sets.
 //!
-//! A derivation starts from a formula in conjunctive normal form with weighted soft literals. Each step adds a
-//! clause that follows by unit propagation along a list of clause numbers, deletes learnt clauses, or ends the
-//! derivation. A core, a clause of negated soft literals, raises the lower bound of the cost and is split so that
-//! costs stay exact (N. Narodytska, F. Bacchus, Maximum Satisfiability Using Core-Guided MaxSAT Resolution). The
-//! [`Checker`] answers for each step whether it is allowed, and the first error where it isn't. [`Checked`] hands
-//! each allowed step on to a sink.
+//! A derivation starts from a formula in conjunctive normal form with weighted soft literals. Each step adds
+//! a clause that follows by its hints, deletes learnt clauses, or ends the derivation. A core, a clause of
+//! negated soft literals, raises the lower bound of the cost. It is split so that costs stay exact (N.
+//! Narodytska, F. Bacchus, Maximum Satisfiability Using Core-Guided MaxSAT Resolution).
+//!
+//! The [`Checker`] answers for each step whether it is allowed, or its first error. [`Checked`] hands each
+//! allowed step to a sink.
 #![tactic(auto)]
 
 mod block;

@@ -3,7 +3,7 @@
 ghost use Rattle.std.specs.Prelude.{◌≡◌, OnOk};
 ghost use Rattle.ba_lits.specs.Hints.{standing, replay as replay_of};
 ghost use Rattle.ba_checker.specs.States.{clause_at};
-ghost use Rattle.ba_checker.specs.Judging.{Finds, error_of_replay};
+ghost use Rattle.ba_checker.specs.StepRules.{Finds, error_of_replay};
 ghost use Rattle.ba_checker.specs.Looks.{standing_of};
 
 use crate::clauses::Clauses;
@@ -11,7 +11,7 @@ use ba_lits::{Lit, LiteralSet};
 use ba_steps::StepError;
 use std::alloc::AllocError;
 
-/// What a clause says where some literals are false.
+/// The status of a clause if some literals are false.
 #[derive(Clone, Copy)]
 pub enum Look {
     /// All its literals are false.
@@ -22,7 +22,7 @@ pub enum Look {
     Open,
 }
 
-/// What a clause says where the members of the set are false.
+/// The status of a clause if the members of the set are false.
 pub fn look_at(falses: &LiteralSet, lits: &[Lit]) -> Look
     ensures { standing_of result ≡ standing falses.now lits.now }
 {
@@ -45,8 +45,8 @@ pub fn look_at(falses: &LiteralSet, lits: &[Lit]) -> Look
     }
 }
 
-/// Looks at the clauses of the hints one after the other, where the members of the set are false, and takes the free
-/// literal of each unit clause as true. Ok where the last one is false.
+/// Takes the clauses of the hints in turn, with the members of the set false, and makes the free literal of
+/// each unit clause true. The answer is `Ok` if the last clause is false.
 pub fn replay(clauses: &Clauses, falses: &mut LiteralSet, hints: &[u64]) -> Result<(), StepError>
     ensures { Finds result (error_of_replay
         (replay_of (clause_at clauses.now) falses.old hints.now)) }
@@ -71,7 +71,7 @@ pub fn replay(clauses: &Clauses, falses: &mut LiteralSet, hints: &[u64]) -> Resu
     Err(StepError::NotClosed)
 }
 
-/// Makes the set that of a clause's literals.
+/// Fills the set with a clause's literals.
 pub fn refill(set: &mut LiteralSet, lits: &[Lit]) -> Result<(), AllocError>
     ensures { OnOk result (set.new ≡ lits.now) }
 {

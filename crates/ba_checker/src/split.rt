@@ -48,7 +48,7 @@ fn add_and_gate(clauses: &mut Clauses, e: u64, b: Lit, c: Lit) -> Result<(), All
     clauses.add([b.negated(), c.negated(), fresh].as_slice(), Origin::Split)
 }
 
-/// What stands for `one of these literals is true`: a single one itself, several the variable d.
+/// A literal for `one of these literals is true`: a single one itself, for several the variable d.
 fn some_of(d: u64, lits: &[Lit]) -> Lit
     requires counted { 1 ≤ d }
     requires below { d < 2 ^ 62 }
@@ -77,7 +77,7 @@ fn add_ors(clauses: &mut Clauses, d: u64, lits: &[Lit]) -> Result<(), AllocError
     Ok(())
 }
 
-/// Adds the clauses of the variables from e on: `this literal and a later one are true`, where the variables from d
+/// Adds the clauses of the variables from e on: `this literal and a later one are true`. The variables from d
 /// on say `one of the literals from the second on is true`.
 fn add_ands(clauses: &mut Clauses, d: u64, e: u64, lits: &[Lit]) -> Result<(), AllocError>
     requires or_counted { 1 ≤ d }
@@ -95,7 +95,7 @@ fn add_ands(clauses: &mut Clauses, d: u64, e: u64, lits: &[Lit]) -> Result<(), A
     Ok(())
 }
 
-/// Adds the clauses of the split of a core, where the fresh variables begin at `first`.
+/// Adds the clauses of the split of a core, whose fresh variables begin at `first`.
 pub fn add_split(clauses: &mut Clauses, first: u64, lits: &[Lit]) -> Result<(), AllocError>
     requires counted { 1 ≤ first }
     requires some { 0 < length lits.now }
@@ -108,7 +108,7 @@ pub fn add_split(clauses: &mut Clauses, first: u64, lits: &[Lit]) -> Result<(), 
     add_ands(clauses, first, first + later.saturating_sub(1), lits)
 }
 
-/// How many fresh variables a core of so many literals takes.
+/// How many fresh variables a core of `lits` literals takes.
 pub fn fresh_count(lits: u64) -> u64
     requires { lits < 2 ^ 62 }
     ensures { result ≡ fresh_count lits }
@@ -116,7 +116,7 @@ pub fn fresh_count(lits: u64) -> u64
     lits.saturating_sub(2) + lits.saturating_sub(1)
 }
 
-/// The least weight of the soft literals whose negations are members of the set; None where there is none.
+/// The least weight of the soft literals whose negations are members of the set; `None` if there is none.
 pub fn lightest(core: &LiteralSet, softs: &[(Lit, u32)]) -> Option<u32>
     ensures { result ≡ lightest core.now softs.now }
 {
@@ -129,7 +129,7 @@ pub fn lightest(core: &LiteralSet, softs: &[(Lit, u32)]) -> Option<u32>
     least
 }
 
-/// The lesser of two weights of which one may be missing.
+/// The lesser of two weights, one of which may be missing.
 fn lesser(weight: u32, other: Option<u32>) -> u32
     ensures { result ≡ lesser weight other }
 {
@@ -139,7 +139,7 @@ fn lesser(weight: u32, other: Option<u32>) -> u32
     }
 }
 
-/// The soft literals, where those whose negations are members of the set have lost a weight and are gone at 0.
+/// The soft literals after those whose negations are members of the set lost a weight; they are gone at 0.
 pub fn lowered(
     alloc: Global,
     core: &LiteralSet,
@@ -155,7 +155,7 @@ pub fn lowered(
     Ok(left)
 }
 
-/// Adds a soft literal to those that are left, lowered where its negation is a member of the set.
+/// Appends a soft literal to those that are left, lowered if its negation is a member of the set.
 fn keep_soft(
     left: &mut Vec<(Lit, u32)>,
     core: &LiteralSet,
@@ -172,7 +172,7 @@ fn keep_soft(
     Ok(())
 }
 
-/// Adds the negations of the variables from e on, each with the weight, one for each literal but the last.
+/// Appends the negations of the variables from e on, each with the weight, one for each literal but the last.
 pub fn add_late_softs(
     softs: &mut Vec<(Lit, u32)>,
     weight: u32,

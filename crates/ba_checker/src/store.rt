@@ -21,12 +21,12 @@ pub enum Origin {
     Split,
     /// A blocked set.
     Blocked,
-    /// A Learn step, and a Delete step took it away.
+    /// A Learn step; a Delete step has deleted it.
     Deleted,
 }
 
-/// The clauses in the order of their numbers, which begin at 1: one vector of literals, and the end of each clause
-/// in it.
+/// The clauses in the order of their numbers, which begin at 1: one vector of literals, and the end of each
+/// clause in it.
 pub struct Store {
     lits: Vec<Lit>,
     ends: Vec<usize>,
@@ -88,7 +88,7 @@ impl Store {
         Ok(())
     }
 
-    /// The live clause of a number; None exactly where there is none.
+    /// The live clause of a number; `None` exactly if there is none.
     pub fn clause(&self, number: u64) -> Option<&[Lit]>
         ensures { option_copied result ≡ clause_at self.now number }
     {
@@ -105,7 +105,7 @@ impl Store {
         ))
     }
 
-    /// How many literals the clause of a number has, live or deleted; 0 where there is none.
+    /// How many literals the clause of a number has, live or deleted; 0 if there is none.
     pub fn width(&self, number: u64) -> usize
         ensures { result ≡ width_at self.now number }
     {
@@ -115,7 +115,7 @@ impl Store {
         self.at(number as usize - 1).len()
     }
 
-    /// Deletes the clauses of these numbers, where there are any.
+    /// Deletes the clauses of these numbers; numbers of no clause are skipped.
     pub fn delete_all(&mut self, numbers: &[u64])
         ensures { self.new ≡ without_all self.old numbers.now }
     {
@@ -124,7 +124,7 @@ impl Store {
         }
     }
 
-    /// Deletes the clause of a number, where there is one.
+    /// Deletes the clause of a number, if there is one.
     fn delete(&mut self, number: u64)
         ensures { self.new ≡ without self.old number }
     {
@@ -134,7 +134,7 @@ impl Store {
         self.origins[number as usize - 1] = Origin::Deleted;
     }
 
-    /// Whether the clause at a place is live.
+    /// Whether the clause at an index is live.
     pub fn is_live(&self, place: usize) -> bool
         requires { place < length self.now }
         ensures { result ≡ is_live_at self.now place }
@@ -142,7 +142,7 @@ impl Store {
         is_live(self.origins[place])
     }
 
-    /// The clause at a place, from 0 on, live or deleted.
+    /// The clause at an index, from 0 on, live or deleted.
     pub fn at(&self, place: usize) -> &[Lit]
         requires { place < length self.now }
         ensures { result.now ≡ lits_at self.now place }
@@ -150,7 +150,7 @@ impl Store {
         part(self.lits.as_slice(), self.ends.as_slice(), place)
     }
 
-    /// Whether the number is that of a live clause made by a Learn step.
+    /// Whether a live clause that a Learn step made has the number.
     pub fn is_learnt(&self, number: u64) -> bool
         ensures { result ≡ is_learnt_at self.now number }
     {
@@ -189,7 +189,7 @@ fn is_live(origin: Origin) -> bool
     }
 }
 
-/// The clause at a place.
+/// The clause at an index.
 fn part<'a>(lits: &'a [Lit], ends: &[usize], place: usize) -> &'a [Lit]
     requires cut { IsCut (length lits.now) 0 ends.now }
     requires within { place < length ends.now }
@@ -199,7 +199,7 @@ fn part<'a>(lits: &'a [Lit], ends: &[usize], place: usize) -> &'a [Lit]
     between(lits, start(ends, place), ends[place])
 }
 
-/// The literals from one place to another.
+/// The literals from one index to another.
 fn between(lits: &[Lit], start: usize, end: usize) -> &[Lit]
     requires ascends { start ≤ end }
     requires within { end ≤ length lits.now }
@@ -208,7 +208,7 @@ fn between(lits: &[Lit], start: usize, end: usize) -> &[Lit]
     &lits[start..end]
 }
 
-/// Where the clause at a place begins.
+/// Where the clause at an index begins.
 fn start(ends: &[usize], place: usize) -> usize
     requires { place < length ends.now }
     ensures { result ≡ start_of 0 ends.now place }

@@ -8,7 +8,7 @@ use smallvec::SmallVec;
 use std::alloc::{AllocError, Global};
 use std::marker::Model;
 
-/// The values of a choice. Most choices have one or two, which need no memory of their own.
+/// The values of a choice. Most choices have one or two, which are stored without an allocation.
 #[derive(Debug, Drop)]
 pub struct Values {
     items: SmallVec<i64, 2>,
@@ -34,7 +34,7 @@ impl Values {
 
     /// Adds a value at the end.
     ///
-    /// The one error is want of memory, which leaves the values as they were.
+    /// The only error is out of memory, which leaves the values as they were.
     pub fn push(&mut self, value: i64) -> Result<(), AllocError>
         ensures ok { OnOk result (self.new ≡ self.old ++ value ∷ []) }
         ensures err { OnErr result (self.new ≡ self.old) }
@@ -56,7 +56,7 @@ impl Values {
 pub enum Choice {
     /// As written.
     Keep,
-    /// None of its expressions is evaluated, and it takes these values in their place.
+    /// Nothing of the statement is evaluated, and these values replace its result.
     Take(Values),
 }
 

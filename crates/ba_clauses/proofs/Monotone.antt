@@ -10,7 +10,7 @@ use Rattle.ba_clauses.specs.declared.gates.Gate.{Gate}
 use Rattle.ba_clauses.specs.declared.gates.Gate.TheVariants as gate
 use Rattle.ba_clauses.specs.Clauses.{all_of, any_of, gate_value, operands_of}
 
--- where a bit has the value true so it has in the other valuation
+-- if a bit has the value true so it has in the other valuation
 abbrev pub Rises : (Bit → Bool) → (Bit → Bool) → Bit → Type 0
 Rises p q bit = p bit ≡ true → q bit ≡ true
 
@@ -29,7 +29,7 @@ any_rises p q (bit ∷ bits) rises is = ⊎_elim
     (λ later. or_right (q bit) (any_of q bits) (any_rises p q bits rises.1 later))
     (or_cases (p bit) (any_of p bits) is)
 
--- where both sides rise, the value is the same
+-- if both sides rise, the value is the same
 pub same_value : (a b : Bool) → (a ≡ true → b ≡ true) → (not a ≡ true → not b ≡ true) → a ≡ b
 same_value true b up down = sym (up refl)
 same_value false true up down = down refl

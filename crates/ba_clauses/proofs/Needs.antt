@@ -111,7 +111,7 @@ AreServed-more number old new (Majority a b c) positive negative some more serve
   IsServed-more number old new c positive negative false some more served.2,
 )
 
--- what was passed on is so later, where only earlier nodes are needed more
+-- what was passed on is so later, if only earlier nodes are needed more
 pub IsPassedOn-more : (number k : ℕ) (old new : List Use) (node : Node) → number ≤ k →
     NeedMoreBelow number old new → IsPassedOn old k node → IsPassedOn new k node
 IsPassedOn-more number k old new node le more passed = step (use_at old k) (use_at new k) (more.stays k le)

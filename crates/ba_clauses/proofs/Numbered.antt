@@ -20,7 +20,7 @@ IsNumbering-none nodes uses bound = record {
   assigns = λ values. (λ variable. false, λ number some. absurd (omega (arith, some)));
 }
 
--- what stands at a place once an element was pushed
+-- what is at a place once an element was pushed
 data Place (xs : List ℕ) (x i : ℕ) : Type 0 where
   before : i < length xs → get_or (xs ++ x ∷ []) i 0 ≡ get_or xs i 0 → Place xs x i
   last : i ≡ length xs → get_or (xs ++ x ∷ []) i 0 ≡ x → Place xs x i

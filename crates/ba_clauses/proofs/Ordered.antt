@@ -9,7 +9,7 @@ use Rattle.ba_lits.specs.Literals.{Literal, literal_at, lit_at, IsClause}
 use Rattle.ba_lits.specs.Satisfaction.{Assignment, signed, any_true}
 use Rattle.ba_clauses.specs.Clauses.{IsCodeOf, code_true}
 
--- what stands twice is counted once
+-- what occurs twice is counted once
 once : (a b rest : Bool) → a ≡ b → (b || rest) ≡ (b || (a || rest))
 once true true rest e = refl
 once true false rest e = absurd (cc)
@@ -97,7 +97,7 @@ length-codes : (codes : List ℕ) → length (map literal_at codes) ≡ length c
 length-codes [] = refl
 length-codes (code ∷ codes) = ap suc (length-codes codes)
 
--- halves rise where no number is next to an even one
+-- halves rise if no number is next to an even one
 half_rises : (x y r : ℕ) → x < y → x % 2 ≡ r → r < 2 → (x % 2 ≡ 0 → y ≢ x + 1) → x / 2 < y / 2
 half_rises x y zero less even low other = let gap : y ≢ x + 1 = other even in omega arith
 half_rises x y (suc zero) less odd low other = omega arith

@@ -84,7 +84,7 @@ operands_have_variables nodes uses variables bound number bits size numbering op
     (λ bit operand. operand_has_variable nodes uses variables bound number bit size numbering operand) bits
     operands
 
--- where earlier nodes are sound, an operand's literal implies it
+-- if earlier nodes are sound, an operand's literal implies it
 pub operand_rises : (nodes : List Node) (uses : List Use) (variables : List ℕ) (bound number : ℕ) (v :
     Assignment) (bit : Bit) → AreOrdered nodes → length variables ≡ length nodes →
     IsNumbering nodes uses variables bound → AreSound nodes uses variables v number →
@@ -101,7 +101,7 @@ operand_rises nodes uses variables bound number v bit ordered size numbering sou
     (ap (literal_value variables v) same ∙ is))
     operand.implied
 
--- where the variables follow the nodes, a literal has the value of its bit
+-- if the variables follow the nodes, a literal has the value of its bit
 pub follows_bit : (nodes : List Node) (variables : List ℕ) (free : ℕ →
     Bool) (v : Assignment) (bit : Bit) → 0 < bit.index →
     v (get_or variables (bit.index - 1) 0) ≡ truth free nodes (node_bit (bit.index - 1)) →
@@ -115,7 +115,7 @@ follows_bit nodes variables free v bit some same =
     step false = refl
     step true = sym (truth-opposite free nodes (node_bit (bit.index - 1)))
 
--- where the variables follow the nodes, an operand's literal has its value
+-- if the variables follow the nodes, an operand's literal has its value
 operand_follows : (nodes : List Node) (uses : List Use) (variables : List ℕ) (bound number : ℕ) (free : ℕ →
     Bool) (v : Assignment) (bit : Bit) → length variables ≡ length nodes →
     IsNumbering nodes uses variables bound → Follows nodes variables free v →

@@ -1,4 +1,4 @@
--- What added clauses say.
+-- The meaning of added clauses.
 
 use Rattle.std.specs.Prelude.{◌≡◌, ℕ, ◌+◌, ◌-◌, ◌*◌, ◌<◌, ◌≤◌, length, Bool, true, false, ◌&&◌, ◌||◌, List, [], ◌∷◌, slice_index, if◌then◌else◌}
 use Rattle.ba_nodes.specs.declared.Bit.{Bit}
@@ -9,7 +9,7 @@ use Rattle.ba_lits.specs.Satisfaction.{Assignment, lit_true, all_true}
 use Rattle.ba_clauses.specs.declared.gates.Gate.{Gate}
 use Rattle.ba_clauses.specs.declared.gates.Gate.TheVariants.{All, Any, Xor, Mux, Majority}
 
--- clauses were added that hold where a test does
+-- clauses were added that hold if a test does
 pub record Adds (old new : Cnf) (says : Assignment → Bool) : Type 0 where
   pub variables : new.variables ≡ old.variables
   pub holds : (v : Assignment) → all_true v new.clauses ≡ (all_true v old.clauses && says v)
@@ -19,6 +19,7 @@ abbrev pub all_of : (Bit → Bool) → List Bit → Bool
 all_of value [] = true
 all_of value (bit ∷ bits) = value bit && all_of value bits
 
+-- some bit is true
 abbrev pub any_of : (Bit → Bool) → List Bit → Bool
 any_of value [] = false
 any_of value (bit ∷ bits) = value bit || any_of value bits
@@ -31,7 +32,7 @@ gate_value value (Xor a b) = bool_xor (value a) (value b)
 gate_value value (Mux a b c) = if value a then value b else value c
 gate_value value (Majority a b c) = bool_majority (value a) (value b) (value c)
 
--- the bits whose truth a gate's value rises with; where it may fall too, their opposites are among them
+-- the bits with which a gate's value rises; the opposites too, if it may also fall
 abbrev pub operands_of : Gate → List Bit
 operands_of (All bits) = bits.items
 operands_of (Any bits) = bits.items
@@ -43,10 +44,11 @@ operands_of (Majority a b c) = a ∷ b ∷ c ∷ []
 abbrev pub literal_of : List ℕ → Bit → Literal
 literal_of variables bit = record { variable = slice_index variables (bit.index - 1); negated = bit.negated }
 
+-- the value of a bit by the model
 abbrev pub literal_value : List ℕ → Assignment → Bit → Bool
 literal_value variables v bit = lit_true v (literal_of variables bit)
 
--- the literal is one of these variables, or the opposite of one
+-- the literal is one of these variables, or the negation of one
 pub record IsLiteralOf (bound : ℕ) (lit : Literal) : Type 0 where
   pub counted : 1 ≤ lit.variable
   pub within : lit.variable ≤ bound

@@ -1,4 +1,4 @@
--- Formulas that say what bits of gates are.
+-- Formulas that encode bits of gates.
 
 use Rattle.std.specs.Prelude.{◌≡◌, ℕ, ◌<◌, ◌≤◌, ◌==◌, Bool, true, not, ◌&&◌, List, [], ◌∷◌, map, Contains, if◌then◌else◌}
 use Rattle.ba_nodes.specs.declared.Bit.{Bit}
@@ -9,7 +9,7 @@ use Rattle.ba_lits.specs.Satisfaction.{Assignment, lit_true, all_true}
 use Rattle.ba_clauses.specs.declared.encoding.Reading.{Reading}
 use Rattle.ba_clauses.specs.declared.encoding.Reading.TheVariants.{Constant, Variable}
 
--- each of the bits is true, where the free bits have these values
+-- each of the bits is true if the free bits have these values
 abbrev pub all_hold : (ℕ → Bool) → List Node → List Bit → Bool
 all_hold free nodes [] = true
 all_hold free nodes (bit ∷ bits) = truth free nodes bit && all_hold free nodes bits
@@ -18,12 +18,12 @@ all_hold free nodes (bit ∷ bits) = truth free nodes bit && all_hold free nodes
 abbrev pub is_false : Bit → Bool
 is_false bit = (bit.index == 0) && not bit.negated
 
--- the value that an assignment of the variables gives a bit that is read so
+-- the value of a bit with this reading under an assignment of the variables
 abbrev pub value_read : Assignment → Reading → Bool
 value_read v (Constant value) = value
 value_read v (Variable lit) = lit_true v lit
 
--- the reading of a bit, where this is the variable of each index of bits
+-- the reading of a bit, by the variable of each index of bits
 abbrev pub reading_by : (ℕ → ℕ) → Bit → Reading
 reading_by variable_of bit =
     if bit.index == 0 then Constant bit.negated else Variable (record {
@@ -31,12 +31,12 @@ reading_by variable_of bit =
       negated = bit.negated;
     })
 
--- the readings have the values that the bits have, under assignments of the variables and of the free bits
+-- under assignments of the variables and of the free bits, the readings have the values of the bits
 abbrev pub AreRead : (ℕ → Bool) → List Node → List Bit → Assignment → List Reading → Type 0
 AreRead free nodes read v readings = map (value_read v) readings ≡ map (truth free nodes) read
 
--- the models of a formula are the assignments of the free bits under which all required bits are true, and the
--- bits that are read have the values of their readings; different nodes are read by different variables
+-- The models of a formula are the assignments of the free bits under which all required bits are true. The
+-- bits that are read have the values of their readings. Different nodes are read by different variables.
 pub record IsEncoding (nodes : List Node) (required read : List Bit) (formula : Cnf)
     (readings : List Reading) : Type 0 where
   pub variable_of : ℕ → ℕ

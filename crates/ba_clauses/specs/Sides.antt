@@ -1,4 +1,4 @@
--- What clauses say of nodes, one node after the other.
+-- The clauses of nodes, one node after the other.
 
 use Rattle.std.specs.Prelude.{◌≡◌, ℕ, ◌-◌, ◌^◌, ◌<◌, ◌≤◌, Bool, true, false, not, ◌&&◌, ◌||◌, List, [], ◌∷◌, ◌++◌, length, Some, slice_get, slice_index, ◌⊎◌}
 use Rattle.ba_nodes.specs.declared.Bit.{Bit}
@@ -12,13 +12,14 @@ use Rattle.ba_clauses.specs.declared.uses.Use.{Use}
 use Rattle.ba_clauses.specs.Clauses.{literal_value}
 use Rattle.ba_clauses.specs.Uses.{use_at, node_side, is_implied, is_asked, is_used, IsServed, IsPassedOn}
 
--- nodes in their order, with what is needed of each passed on to its operands
+-- nodes in order, each of whose needs is passed on to its operands
 pub record ArePassedOn (nodes : List Node) (uses : List Use) : Type 0 where
   pub ordered : AreOrdered nodes
   pub small : length nodes < 2 ^ 32
   pub size : length uses ≡ length nodes
   pub passed : (number : ℕ) (node : Node) → slice_get nodes number ≡ Some node → IsPassedOn uses number node
 
+-- the node is an `and`
 abbrev pub is_and : Node → Bool
 is_and (Free own) = false
 is_and (And a b) = true
@@ -26,7 +27,7 @@ is_and (Xor a b) = false
 is_and (Mux a b c) = false
 is_and (Majority a b c) = false
 
--- the node has a variable: it is used and no `and` that is taken into another
+-- the node has a variable: it is used, and it is no `and` that is merged into another
 abbrev pub has_variable : Node → Use → Bool
 has_variable (Free number) own = is_used own
 has_variable (And a b) own = (own.positive || own.negative) && not own.merged
@@ -34,7 +35,7 @@ has_variable (Xor a b) own = own.positive || own.negative
 has_variable (Mux a b c) own = own.positive || own.negative
 has_variable (Majority a b c) own = own.positive || own.negative
 
--- what an `and` takes in: an `and` as it is that is used there alone
+-- what an `and` merges: another `and` without negation, used there alone
 abbrev pub is_taken_in : Bit → Node → Use → Bool
 is_taken_in bit node own = (not bit.negated && own.merged) && is_and node
 
@@ -43,17 +44,19 @@ abbrev pub IsNamed : List Node → List Use → Bit → Type 0
 IsNamed nodes uses bit = (node : Node) → slice_get nodes (bit.index - 1) ≡ Some node →
     has_variable node (use_at uses (bit.index - 1)) ≡ true
 
--- an operand of an `and` of this number, whose sides are needed so; one that is not taken in
+-- a conjunct of the `and` of this number that is not merged; `positive` and `negative` tell the sides of the
+-- `and` that are needed
 pub record IsConjunct (uses : List Use) (number : ℕ) (positive negative : Bool) (bit : Bit) : Type 0 where
   pub served : IsServed uses bit positive negative true
   pub earlier : bit.index ≤ number
 
+-- a conjunct that is not merged, and whose node has a variable
 pub record IsLeaf (nodes : List Node) (uses : List Use) (number : ℕ) (positive negative : Bool) (bit : Bit)
     : Type 0 where
   pub conjunct : IsConjunct uses number positive negative bit
   pub named : IsNamed nodes uses bit
 
--- a conjunct of those that are left is taken in, and its operands are left in its place, or it stays
+-- A conjunct is merged and replaced by its operands, or it is found.
 pub data Expands (nodes : List Node) (uses : List Use) (bit : Bit) (left found later more : List Bit) :
     Type 0 where
   stays : ((node : Node) → slice_get nodes (bit.index - 1) ≡ Some node →
@@ -69,8 +72,8 @@ pub record IsOfNode (nodes : List Node) (bit : Bit) : Type 0 where
   pub node : 0 < bit.index
   pub among : bit.index ≤ length nodes
 
--- an operand of the gate of this number: its literal implies it, since it is free, or is an earlier one of
--- which that is needed
+-- An operand of the gate of this number. Its literal implies it, since it is free, or an earlier node of
+-- which that is needed.
 pub record IsOperand (nodes : List Node) (uses : List Use) (number : ℕ) (bit : Bit) : Type 0 where
   pub node : 0 < bit.index
   pub among : bit.index ≤ length nodes
@@ -78,7 +81,7 @@ pub record IsOperand (nodes : List Node) (uses : List Use) (number : ℕ) (bit :
   pub implied : (slice_get nodes (bit.index - 1) ≡ Some (Free (bit.index - 1))) ⊎
       ((bit.index ≤ number) × (is_implied (use_at uses (bit.index - 1)) bit.negated ≡ true))
 
--- a variable of its own for each of the first nodes that has one: any values of the nodes are those of an
+-- different variables for those of the first nodes that have one; any values of the nodes are those of an
 -- assignment
 pub record IsNumbering (nodes : List Node) (uses : List Use) (variables : List ℕ) (bound : ℕ) : Type 0 where
   pub among : length variables ≤ length nodes
@@ -107,29 +110,31 @@ Follows nodes variables free v =
     (number : ℕ) → 1 ≤ slice_index variables number →
     v (slice_index variables number) ≡ truth free nodes (node_bit number)
 
--- the sides of a node that must be true are
+-- the sides of a node that must be true are true
 abbrev pub IsAskedTrue : List Node → List Use → (ℕ → Bool) → ℕ → Type 0
 IsAskedTrue nodes uses free number =
     (negated : Bool) → is_asked (use_at uses number) negated ≡ true →
     truth free nodes (node_side number negated) ≡ true
 
--- the sides of a node that are implied by their literals are true where these are
+-- the sides of a node that are implied by their literals are true if these are
 abbrev pub IsImpliedTrue : List Node → List Use → List ℕ → Assignment → ℕ → Type 0
 IsImpliedTrue nodes uses variables v number =
     (negated : Bool) → is_implied (use_at uses number) negated ≡ true → 1 ≤ slice_index variables number →
     literal_value variables v (node_side number negated) ≡ true →
     truth (free_of variables v) nodes (node_side number negated) ≡ true
 
+-- what is asked of a node and what is implied of it hold in the model
 pub record IsSound (nodes : List Node) (uses : List Use) (variables : List ℕ) (v : Assignment) (number : ℕ)
     : Type 0 where
   pub asked : IsAskedTrue nodes uses (free_of variables v) number
   pub implied : IsImpliedTrue nodes uses variables v number
 
+-- the same of all nodes below `count`
 abbrev pub AreSound : List Node → List Use → List ℕ → Assignment → ℕ → Type 0
 AreSound nodes uses variables v count = (number : ℕ) → number < count → IsSound nodes uses variables v number
 
--- clauses were added that say something where earlier nodes are sound, and hold where the variables follow
--- the nodes
+-- clauses were added that hold if the variables follow the nodes; they say something of the node if earlier
+-- nodes are sound
 pub record Tells (nodes : List Node) (uses : List Use) (variables : List ℕ) (number : ℕ) (old new : Cnf)
     (says : Assignment → Type 0) (asks : (ℕ → Bool) → Assignment → Type 0) : Type 0 where
   pub variables_stay : new.variables ≡ old.variables

@@ -13,9 +13,9 @@ use ba_lits::{Formula, Lit};
 use ba_nodes::{Bit, Nodes};
 use std::alloc::{AllocError, Global};
 
-/// Adds clauses by which a literal of `head` is true, or the gate has the value true over the literals of its bits.
+/// Adds clauses that say: a literal of `head` is true, or the gate is, over the literals of its bits.
 ///
-/// The one error is want of memory.
+/// The only error is out of memory.
 pub fn imply(
     alloc: Global,
     formula: &mut Formula,
@@ -114,7 +114,7 @@ fn codes_of(
     Ok(codes)
 }
 
-/// Adds the clause of the literals of these indices, in order and each once, where it does not always hold.
+/// Adds the clause of the literals of these indices, in order and each once, unless it always holds.
 fn add_clause(alloc: Global, formula: &mut Formula, codes: Vec<usize>) -> Result<(), AllocError>
     requires { All (IsCodeOf formula.old.variables) codes.items }
     ensures { OnOk result (Adds formula.old formula.new
@@ -128,7 +128,7 @@ fn add_clause(alloc: Global, formula: &mut Formula, codes: Vec<usize>) -> Result
     formula.push(lits.as_slice())
 }
 
-/// The numbers in order, and each once.
+/// The numbers in order, each once.
 fn distinct(mut codes: Vec<usize>) -> Vec<usize>
     ensures rising { IsStrictlyIncreasing result.items }
     ensures within { (bound : ℕ) → All (IsCodeOf bound) codes.items →

@@ -1,4 +1,4 @@
-//! Formulas that say what bits of gates are.
+//! Formulas that encode bits of gates.
 
 ghost use Rattle.std.specs.Prelude.{◌≡◌, ◌^◌, ◌<◌, ◌-◌, not, map, slice_index, IfOk, All};
 ghost use Rattle.std.specs.List.{list_any};
@@ -33,13 +33,13 @@ pub struct Encoding {
     pub readings: Items<Reading>,
 }
 
-/// The formula by which some bits are all true, with the readings of others.
+/// The formula that some bits are all true, with the readings of others.
 ///
-/// Its models are the assignments of the free bits under which all `required` bits are true, and a bit of `read` has
-/// there the value of its reading. A free bit that nothing is said of has no variable. A required bit that is a negated
+/// Its models are the assignments of the free bits under which all `required` bits are true. In a model each
+/// bit of `read` has the value of its reading. A free bit without any use has no variable. A required negated
 /// `and` is one clause of its operands.
 ///
-/// The one error is want of memory.
+/// The only error is out of memory.
 pub fn clauses_of(
     alloc: Global,
     nodes: &Nodes,
@@ -70,7 +70,7 @@ pub fn clauses_of(
     })
 }
 
-/// The formula without variables; with the empty clause, if a constant among the bits is false.
+/// The formula without variables. It has the empty clause if a constant among the bits is false.
 fn first_clauses(alloc: Global, bits: &[Bit]) -> Result<Formula, AllocError>
     ensures variables { IfOk result (λ formula. formula.variables ≡ 0) }
     ensures holds { IfOk result (λ formula. (v : Assignment) →

@@ -1,4 +1,4 @@
-//! Gates as their clauses see them.
+//! Gates as clauses see them.
 
 ghost use Rattle.std.specs.Prelude.{◌≡◌, ◌≢◌, ℕ, ◌+◌, ◌-◌, ◌<◌, ◌≤◌, ◌&&◌, ◌||◌, Bool, true, false, List, [], ◌∷◌, length, map, IfOk, OnOk, MatchOption, All, Some, slice_get, if◌then◌else◌};
 ghost use Rattle.ba_nodes.specs.declared.Node.{Node};
@@ -15,22 +15,21 @@ use std::alloc::{AllocError, Global};
 /// A gate over bits.
 #[derive(Drop)]
 pub enum Gate {
-    /// True where all of the bits are.
+    /// True if all of the bits are.
     All(Vec<Bit>),
-    /// True where one of the bits is.
+    /// True if one of the bits is.
     Any(Vec<Bit>),
-    /// True where just one of the two is.
+    /// True if just one of the two is.
     Xor(Bit, Bit),
-    /// The value of the second where the first is true, and else that of the third.
+    /// The value of the second if the first is true, and else that of the third.
     Mux(Bit, Bit, Bit),
-    /// True where at least two of the three are.
+    /// True if at least two of the three are.
     Majority(Bit, Bit, Bit),
 }
 
-/// The gate that has the value of a bit, of which something is needed. An `and` takes in those operands of its that
-/// are `and`s used there alone.
+/// The gate of a bit in use. An `and` merges those operands that are `and`s used there alone.
 ///
-/// The one error is want of memory.
+/// The only error is out of memory.
 pub fn gate_of(alloc: Global, nodes: &[Node], uses: &[Use], bit: Bit) -> Result<Gate, AllocError>
     requires graph { ArePassedOn nodes.now uses.now }
     requires node { 0 < bit.index }
@@ -75,7 +74,7 @@ fn single(alloc: Global, bit: Bit) -> Result<Vec<Bit>, AllocError>
     Ok(bits)
 }
 
-/// The operands of an `and`, with those of the `and`s that it takes in.
+/// The operands of an `and`, with those of the `and`s that it merges.
 fn conjuncts_of(
     alloc: Global,
     nodes: &[Node],
@@ -105,7 +104,7 @@ fn conjuncts_of(
     Ok(conjuncts)
 }
 
-/// A conjunct is found, or is taken in and leaves its operands.
+/// Finds a conjunct, or merges it and leaves its operands.
 fn expand(
     nodes: &[Node],
     uses: &[Use],
@@ -131,7 +130,7 @@ fn expand(
     }
 }
 
-/// The operands of an `and` that is taken in where it is used.
+/// The operands of an `and`, if the `and` that uses it merges it.
 fn operands_taken_in(nodes: &[Node], uses: &[Use], bit: Bit) -> Option<(Bit, Bit)>
     requires size { length uses.now ≡ length nodes.now }
     requires bit { IsOfNode nodes.now bit }
@@ -162,7 +161,7 @@ fn opposites(alloc: Global, bits: &[Bit]) -> Result<Vec<Bit>, AllocError>
     Ok(others)
 }
 
-/// The bit, negated where `negated` is true.
+/// The bit, negated if `negated` is true.
 fn negated_if(bit: Bit, negated: bool) -> Bit
     ensures { result ≡ (if negated then opposite bit else bit) }
 {

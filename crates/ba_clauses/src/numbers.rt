@@ -9,9 +9,9 @@ use ba_lits::{Formula, Lit};
 use ba_nodes::{Bit, Node};
 use std::alloc::{AllocError, Global};
 
-/// A variable of its own for each node that has one, in the order of the nodes, and 0 for each other.
+/// The variables of nodes, in order: a new one for each node that has a variable, and 0 for any other.
 ///
-/// The one error is want of memory.
+/// The only error is out of memory.
 pub fn variables_of(
     alloc: Global,
     nodes: &[Node],
@@ -32,9 +32,9 @@ pub fn variables_of(
     Ok(variables)
 }
 
-/// The next variable, where one is wanted, and else 0.
+/// The next variable if one is wanted, and else 0.
 ///
-/// The one error is want of room.
+/// The only error is that there would be too many variables.
 fn next_variable(formula: &mut Formula, wanted: bool) -> Result<u64, AllocError>
     ensures next { IfOk result (λ variable. IsNext formula.old formula.new wanted variable) }
     ensures clauses { formula.new.clauses ≡ formula.old.clauses }
@@ -55,7 +55,7 @@ fn has_variable(node: Node, own: Use) -> bool
     }
 }
 
-/// The literal of a bit whose node has a variable, of so many.
+/// The literal of a bit whose node has a variable below `bound`.
 pub fn literal(bound: u64, variables: &[u64], bit: Bit) -> Lit
     requires bound { bound < 2 ^ 62 }
     requires bit { HasVariable variables.now bound bit }

@@ -13,9 +13,9 @@ use ba_lits::{Formula, Lit};
 use ba_nodes::{Bit, Node};
 use std::alloc::{AllocError, Global};
 
-/// Adds what is needed of all nodes.
+/// Adds the clauses of all nodes.
 ///
-/// The one error is want of memory.
+/// The only error is out of memory.
 pub fn add_nodes(
     alloc: Global,
     formula: &mut Formula,
@@ -35,7 +35,7 @@ pub fn add_nodes(
     Ok(())
 }
 
-/// Adds what is needed of a node.
+/// Adds the clauses of a node.
 fn add_node(
     alloc: Global,
     formula: &mut Formula,
@@ -56,7 +56,7 @@ fn add_node(
     add_implied(alloc, formula, nodes, uses, variables, number)
 }
 
-/// Adds that the sides of a node that must be true are.
+/// Adds clauses that say: the sides of a node that must be true are true.
 fn add_asked(
     alloc: Global,
     formula: &mut Formula,
@@ -98,7 +98,7 @@ fn add_asked(
     )
 }
 
-/// Adds that the literals of a node's sides imply these, as far as that is needed.
+/// Adds clauses that say: the literals of a node's sides imply these, as far as needed.
 fn add_implied(
     alloc: Global,
     formula: &mut Formula,
@@ -144,7 +144,7 @@ fn add_implied(
     )
 }
 
-/// Adds clauses by which a literal of `head` or a side of a node is true, where that is needed.
+/// Adds clauses that say: a literal of `head` or a side of a node is true; if they are needed.
 fn imply_where(
     needed: bool,
     alloc: Global,
@@ -177,7 +177,7 @@ fn imply_where(
     }
 }
 
-/// Adds clauses by which a literal of `head` or a side of a node is true.
+/// Adds clauses that say: a literal of `head` or a side of a node is true.
 fn imply_side(
     alloc: Global,
     formula: &mut Formula,
@@ -203,7 +203,7 @@ fn imply_side(
     imply(alloc, formula, variables, head, &gate)
 }
 
-/// The bit of the node of a number, or its opposite.
+/// The bit of the node of a number, or its negation.
 fn side(number: usize, negated: bool) -> Bit
     requires { number + 1 < 2 ^ 32 }
     ensures { result ≡ node_side number negated }

@@ -1,4 +1,4 @@
-//! What is needed of each node.
+//! The needs of each node.
 
 ghost use Rattle.std.specs.Prelude.{◌≡◌, ℕ, ◌+◌, ◌-◌, ◌<◌, ◌≤◌, ◌||◌, true, false, [], ◌∷◌, length, map, IfOk, All, slice_get, Some};
 ghost use Rattle.ba_nodes.specs.declared.Node.{Node};
@@ -8,24 +8,24 @@ ghost use Rattle.ba_clauses.specs.Uses.{no_use, is_used, with_operand, with_aske
 use ba_nodes::{Bit, Node};
 use std::alloc::{AllocError, Global};
 
-/// What is needed of a node: clauses by which its literal implies its value, for the two values apart, or that it has
-/// a value.
+/// What is needed of a node: that its literal implies its value, for each of the two values apart; and that
+/// it has a value.
 #[derive(Clone, Copy)]
 pub struct Use {
-    /// Where its literal is true the node must be true.
+    /// If its literal is true the node must be true.
     pub positive: bool,
-    /// Where its literal is false the node must be false.
+    /// If its literal is false the node must be false.
     pub negative: bool,
     /// The node must be true.
     pub required: bool,
     /// The node must be false.
     pub refused: bool,
-    /// It is used once, and that as an operand of an `and` as it is.
+    /// It is used once, as a conjunct of an `and`, without negation.
     pub merged: bool,
 }
 
 impl Use {
-    /// No use at all.
+    /// No use.
     pub const NONE: Use = Use {
         positive: false,
         negative: false,
@@ -41,7 +41,7 @@ impl Use {
         self.positive || self.negative || self.required || self.refused
     }
 
-    /// The use where the bit of the node, negated or not, must be true.
+    /// The use if the bit of the node, negated or not, must be true.
     fn with_asked(self, negated: bool) -> Use
         ensures { result ≡ with_asked self negated }
     {
@@ -53,8 +53,9 @@ impl Use {
         }
     }
 
-    /// The use where a gate has the node's bit, negated or not, as an operand whose literal must imply the operand,
-    /// where `positive`, and the literal of its opposite the opposite, where `negative`. An `and` has it as a conjunct.
+    /// The use if a gate has the node's bit, negated or not, as an operand. If `positive`, its literal must
+    /// imply the operand; if `negative`, the negated literal the negated operand. An `and` has it as a
+    /// conjunct.
     fn with_operand(self, negated: bool, positive: bool, negative: bool, conjunct: bool) -> Use
         ensures { result ≡ with_operand self negated positive negative conjunct }
     {
@@ -76,9 +77,9 @@ impl Use {
     }
 }
 
-/// What is needed of each node where some bits must be true and some are read.
+/// The needs of all nodes if some bits must be true and some are read.
 ///
-/// The one error is want of memory.
+/// The only error is out of memory.
 pub fn uses_of(
     alloc: Global,
     nodes: &[Node],
@@ -95,7 +96,7 @@ pub fn uses_of(
     Ok(uses)
 }
 
-/// All that is needed, where nothing was before.
+/// Enters all needs, starting from none.
 fn need_all(uses: &mut [Use], nodes: &[Node], required: &[Bit], read: &[Bit])
     requires unused { uses.old ≡ map (λ node. no_use) nodes.now }
     requires ordered { AreOrdered nodes.now }
@@ -158,7 +159,7 @@ fn read(uses: &mut [Use], bit: Bit)
     }
 }
 
-/// What is needed of each node is needed of its operands, from the last node down to the first.
+/// Passes the needs of each node on to its operands, from the last node down to the first.
 fn pass_on_all(uses: &mut [Use], nodes: &[Node])
     requires size { length uses.old ≡ length nodes.now }
     requires ordered { AreOrdered nodes.now }
@@ -183,7 +184,7 @@ fn demand(uses: &mut [Use], bit: Bit, positive: bool, negative: bool, conjunct: 
     uses[number] = uses[number].with_operand(bit.negated, positive, negative, conjunct);
 }
 
-/// What is needed of a node is needed of its operands.
+/// Passes the needs of a node on to its operands.
 fn pass_on(uses: &mut [Use], number: usize, node: Node)
     requires among { number < length uses.old }
     requires stands { MayStandAt number node }
@@ -198,7 +199,7 @@ fn pass_on(uses: &mut [Use], number: usize, node: Node)
     }
 }
 
-/// A gate has its operands, where these sides of it are needed.
+/// Enters the operands of a gate, if these sides of it are needed.
 fn demand_operands(uses: &mut [Use], number: usize, node: Node, positive: bool, negative: bool)
     requires among { number < length uses.old }
     requires stands { MayStandAt number node }

@@ -1,4 +1,4 @@
--- Paths in present turns.
+-- Paths in present iterations.
 use Rattle.std.proofs.Common.{◌≡◌, zero, suc, List, [], ◌∷◌, refl, ap}
 use Rattle.ba_code.specs.Meaning.{filled}
 use Rattle.ba_tree.specs.declared.run.Step.{Step}

@@ -1,5 +1,5 @@
--- Code in which each variable and each array keeps to one type. There an operator finds its operands in the
--- range of its type.
+-- Code in which each variable and each array keeps to one type. Then operators find their operands in the
+-- range of their types.
 
 use Rattle.std.specs.Prelude.{◌≡◌, ℕ, Bool, true, ◌&&◌, ◌||◌, Some, List, slice_get}
 use Rattle.std.specs.List.{list_all}
@@ -19,7 +19,7 @@ use Rattle.ba_code.specs.declared.nodes.Take.TheVariants as take
 use Rattle.ba_tree.specs.Facts.{holds}
 use Rattle.ba_numbers.specs.Types.{shifts, type_of_binary, type_of_unary}
 
--- the types of the variables, and the arrays with theirs
+-- the types of the variables, and the arrays with their types
 pub record Types : Type 0 where
   pub vars : List CType
   pub arrays : List ArrayInfo
@@ -32,14 +32,16 @@ is_within a b = is_in b (least_of a) && is_in b (greatest_of a)
 abbrev pub can_hold : Types → ℕ → CType → Bool
 can_hold types n t = holds (is_within t) (slice_get types.vars n)
 
--- what is read is a number of the type
+-- the operand is a number of the type
 abbrev pub has_type : Types → CType → Operand → Bool
 has_type types t (Const z) = is_in t z
 has_type types t (Var n) = holds (λ own. is_within own t) (slice_get types.vars n)
 
+-- the type of an array's elements
 abbrev pub element_type : Types → ℕ → CType
 element_type types n = (info_at types.arrays n).t
 
+-- a free value has the type of what it goes to
 abbrev pub takes_type : Types → Take → Bool
 takes_type types (take.Value to t) = can_hold types to t
 takes_type types (take.Truth to) = is_some (slice_get types.vars to)
@@ -47,9 +49,11 @@ takes_type types (take.Cell array) = true
 takes_type types (take.Cells array) = true
 takes_type types take.Nothing = true
 
+-- all parts keep to the types
 abbrev pub all_typed : List Bool → Bool
 all_typed = list_all (λ b. b)
 
+-- a node keeps each variable and array to its type, by its parts
 abbrev pub typed_step : Types → Node-F Bool → Bool
 typed_step types (Node-F.Set to from) = holds (λ t. has_type types t from) (slice_get types.vars to)
 typed_step types (Node-F.Unary to op t a) = has_type types t a && can_hold types to (type_of_unary op t)
@@ -69,6 +73,7 @@ typed_step types (Node-F.Loop after head when body step stmt) =
 typed_step types (Node-F.Assert when stmt) = true
 typed_step types (Node-F.Beyond stmt) = true
 
+-- a node keeps each variable and array to its type
 unfoldable pub is_typed : Types → Node → Bool
 is_typed types = fold-Node Bool (typed_step types)
 

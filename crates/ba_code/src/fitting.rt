@@ -1,4 +1,5 @@
-//! Whether the parts of a program without calls fit together, and whether its variables and arrays keep to their types.
+//! Whether the parts of a program without calls fit together, and whether its variables and arrays keep to
+//! their types.
 
 ghost use Rattle.std.specs.Prelude.{◌≡◌, ◌==◌, ◌∷◌, false, nat_lt, map, length, slice_get, IfOk, MatchOption};
 ghost use Rattle.std.specs.List.{list_all, list_any};
@@ -15,7 +16,7 @@ use ba_numbers::numbers::CType;
 use ba_numbers::types::{is_promoted, shifts, type_of_binary, type_of_unary};
 use std::alloc::{AllocError, Global};
 
-/// The declaration of an array, or one without elements where it isn't there.
+/// The declaration of an array, or one without elements if it isn't declared.
 fn info_at(arrays: &[ArrayInfo], array: u32) -> ArrayInfo
     ensures { result ≡ info_at arrays.now array }
 {
@@ -28,23 +29,23 @@ fn info_at(arrays: &[ArrayInfo], array: u32) -> ArrayInfo
     }
 }
 
-// WHETHER NUMBERS NAME WHAT IS THERE
+// WHETHER ALL NUMBERS ARE DECLARED
 
-/// Whether the variable is there.
+/// Whether the variable is declared.
 fn is_var(vars: u32, var: u32) -> bool
     ensures { result ≡ nat_lt var vars }
 {
     var < vars
 }
 
-/// Whether the array is there.
+/// Whether the array is declared.
 fn is_array(arrays: &[ArrayInfo], array: u32) -> bool
     ensures { result ≡ nat_lt array (length arrays.now) }
 {
     (array as usize) < arrays.len()
 }
 
-/// Whether a constant is in the range of `I32` or of `U32`, or a variable is there.
+/// Whether the operand is a constant in the range of `I32` or of `U32`, or a declared variable.
 fn is_operand(vars: u32, arrays: &[ArrayInfo], operand: Operand) -> bool
     ensures { result ≡ is_operand (record { vars = vars; arrays = arrays.now }) operand }
 {
@@ -54,7 +55,7 @@ fn is_operand(vars: u32, arrays: &[ArrayInfo], operand: Operand) -> bool
     }
 }
 
-/// Whether all operands are there.
+/// Whether all operands are so.
 fn are_operands(vars: u32, arrays: &[ArrayInfo], operands: &[Operand]) -> bool
     ensures { result
         ≡ list_all (is_operand (record { vars = vars; arrays = arrays.now })) operands.now }
@@ -64,7 +65,7 @@ fn are_operands(vars: u32, arrays: &[ArrayInfo], operands: &[Operand]) -> bool
         .all(|operand| is_operand(vars, arrays, *operand))
 }
 
-/// Whether what the values of a choice change is there.
+/// Whether what the values of a choice change is declared.
 fn is_take(vars: u32, arrays: &[ArrayInfo], take: Take) -> bool
     ensures { result ≡ is_take (record { vars = vars; arrays = arrays.now }) take }
 {
@@ -75,7 +76,7 @@ fn is_take(vars: u32, arrays: &[ArrayInfo], take: Take) -> bool
     }
 }
 
-/// The labels of the blocks around what is in a block, innermost first.
+/// The labels of the blocks around the contents of a block, innermost first.
 fn inside(alloc: Global, label: u32, labels: &[u32]) -> Result<Vec<u32>, AllocError>
     ensures { IfOk result (λ inside. inside.items ≡ label ∷ labels.now) }
 {
@@ -92,7 +93,7 @@ fn is_among(labels: &[u32], label: u32) -> bool
     labels.iter().any(|other| *other == label)
 }
 
-/// Whether a node inside blocks of these labels fits to what is declared.
+/// Whether a node inside blocks of these labels fits the declarations.
 #[cycle(fits)]
 #[tactic(auto, unfolding(crate::specs::Facts::fits_inside))]
 fn node_fits(
@@ -169,7 +170,7 @@ fn node_fits(
     }
 }
 
-/// Whether nodes inside blocks of these labels fit to what is declared.
+/// Whether nodes inside blocks of these labels fit the declarations.
 #[cycle(fits)]
 fn all_fit(
     alloc: Global,
@@ -196,7 +197,7 @@ fn is_array_info(info: &ArrayInfo) -> bool
     1 <= info.len && info.len <= 256
 }
 
-/// Whether what a parameter is given to is there.
+/// Whether the variable or array of a parameter is declared.
 fn is_param(vars: u32, arrays: &[ArrayInfo], param: Param) -> bool
     ensures { result ≡ is_param (record { vars = vars; arrays = arrays.now }) param }
 {
@@ -213,7 +214,7 @@ fn are_array_infos(arrays: &[ArrayInfo]) -> bool
     arrays.iter().all(|info| is_array_info(info))
 }
 
-/// Whether what parameters are given to is there.
+/// Whether the variables and arrays of parameters are declared.
 fn are_params(vars: u32, arrays: &[ArrayInfo], params: &[Param]) -> bool
     ensures { result
         ≡ list_all (is_param (record { vars = vars; arrays = arrays.now })) params.now }
@@ -221,7 +222,7 @@ fn are_params(vars: u32, arrays: &[ArrayInfo], params: &[Param]) -> bool
     params.iter().all(|param| is_param(vars, arrays, *param))
 }
 
-/// Whether the parts fit together as those of a program without calls.
+/// Whether the parts fit together as a program without calls.
 #[tactic(auto, unfolding(crate::specs::Facts::is_loop_tree))]
 fn is_loop_tree(alloc: Global, code: &Code) -> Result<bool, AllocError>
     ensures { IfOk result (λ fit. fit ≡ is_loop_tree code.now) }
@@ -231,7 +232,8 @@ fn is_loop_tree(alloc: Global, code: &Code) -> Result<bool, AllocError>
     Ok(are_array_infos(arrays) & are_params(code.vars, arrays, code.params.as_slice()) & body)
 }
 
-/// The program without calls of these parts, exactly where they fit together. The one error is want of memory.
+/// The program without calls of these parts, or `None` exactly if they do not fit together. The only error is
+/// out of memory.
 pub fn loop_tree_of(alloc: Global, code: Code) -> Result<Option<LoopTree>, AllocError>
     ensures { IfOk result (λ made.
         MatchOption made (is_loop_tree code ≡ false) (λ tree. code_of_loops tree ≡ code)) }
@@ -274,7 +276,7 @@ fn can_hold(vars: &[CType], arrays: &[ArrayInfo], var: u32, t: CType) -> bool
     }
 }
 
-/// Whether an operand has a number of the type.
+/// Whether the operand's value is in the range of the type.
 fn has_type(vars: &[CType], arrays: &[ArrayInfo], t: CType, operand: Operand) -> bool
     ensures { result ≡ has_type (record { vars = vars.now; arrays = arrays.now }) t operand }
 {
@@ -287,7 +289,7 @@ fn has_type(vars: &[CType], arrays: &[ArrayInfo], t: CType, operand: Operand) ->
     }
 }
 
-/// Whether all operands have numbers of the type.
+/// Whether all operands' values are in the range of the type.
 fn have_type(vars: &[CType], arrays: &[ArrayInfo], t: CType, operands: &[Operand]) -> bool
     ensures { result
         ≡ list_all (has_type (record { vars = vars.now; arrays = arrays.now }) t) operands.now }
@@ -297,7 +299,7 @@ fn have_type(vars: &[CType], arrays: &[ArrayInfo], t: CType, operands: &[Operand
         .all(|operand| has_type(vars, arrays, t, *operand))
 }
 
-/// Whether the variable gets a number that it can hold.
+/// Whether the variable can hold the value that it gets.
 fn sets_type(vars: &[CType], arrays: &[ArrayInfo], to: u32, from: Operand) -> bool
     ensures { result
         ≡ holds (λ t. has_type (record { vars = vars.now; arrays = arrays.now }) t from)
@@ -309,7 +311,7 @@ fn sets_type(vars: &[CType], arrays: &[ArrayInfo], to: u32, from: Operand) -> bo
     }
 }
 
-/// Whether the values of a choice are numbers that what they change can hold.
+/// Whether what a choice changes can hold the values.
 fn takes_type(vars: &[CType], arrays: &[ArrayInfo], take: Take) -> bool
     ensures { result ≡ takes_type (record { vars = vars.now; arrays = arrays.now }) take }
 {
@@ -320,7 +322,7 @@ fn takes_type(vars: &[CType], arrays: &[ArrayInfo], take: Take) -> bool
     }
 }
 
-/// Whether in a node each variable and each array keeps to its type.
+/// Whether each variable and each array keeps to its type in a node.
 #[cycle(typed)]
 #[tactic(auto, unfolding(crate::specs::Types::is_typed))]
 fn is_typed(vars: &[CType], arrays: &[ArrayInfo], node: &Node) -> bool
@@ -372,8 +374,8 @@ fn is_typed(vars: &[CType], arrays: &[ArrayInfo], node: &Node) -> bool
     }
 }
 
-/// Whether in nodes each variable keeps to the type that it has here, and each array to its own. Then operators find their operands in
-/// the range of their types.
+/// Whether each variable keeps to this type in the nodes, and each array to its own. Then operators find
+/// their operands in the range of their types.
 #[cycle(typed)]
 pub fn are_typed(vars: &[CType], arrays: &[ArrayInfo], nodes: &[Node]) -> bool
     ensures { result

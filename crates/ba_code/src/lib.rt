@@ -1,7 +1,8 @@
-//! Programs without calls, as three-address code, and what they mean.
+//! The intermediate representation: three-address code without calls, and its semantics (Aho, Sethi and
+//! Ullman, "Compilers", 8.1).
 //!
-//! This crate holds the definitions that the inliner, the unroller and the encoder of words share: the trees of nodes, their runs in
-//! the words of the runs of programs (`ba_tree`), and what each tree keeps.
+//! The inliner, the unroller and the symbolic execution share these definitions: the trees of nodes, their
+//! runs, and what holds of each tree.
 #![tactic(auto)]
 
 pub mod fitting;

@@ -1,5 +1,5 @@
-//! The nodes of three-address code: operators take constants and variables, and the order in which things are done is that of the nodes
-//! (Aho, Sethi and Ullman, "Compilers", 1986, section 8.1).
+//! The nodes of three-address code (Aho, Sethi and Ullman, "Compilers", 1986, section 8.1). Operators take
+//! constants and variables, and nodes are executed in their order.
 
 use ba_numbers::ids::StmtId;
 use ba_numbers::numbers::{BinOp, CType, UnOp};
@@ -12,29 +12,29 @@ pub struct ArrayInfo {
     pub t: CType,
 }
 
-/// What a parameter of `main` is given to: the variable, or the array, of this number.
+/// A parameter of `main`: the variable or array that has it, by number.
 #[derive(Clone, Copy, Debug, PartialEq, Eq)]
 pub enum Param {
     Var(u32),
     Array(u32),
 }
 
-/// What a node reads: a constant, in the range of `I32` or of `U32`, or the variable of this number.
+/// An operand: a constant, in the range of `I32` or of `U32`, or the variable of this number.
 #[derive(Clone, Copy, Debug, PartialEq, Eq)]
 pub enum Operand {
     Const(i64),
     Var(u32),
 }
 
-/// What the values of a choice do in place of a statement that is relaxed. They are those that fit the statement, as in a run of the
+/// What the values of a choice do in place of a relaxed statement. They have to fit, as in a run of the
 /// program.
 #[derive(Clone, Copy, Debug, PartialEq, Eq)]
 pub enum Take {
-    /// One value of the type: the variable has it.
+    /// One value of the type, for the variable.
     Value { to: u32, t: CType },
-    /// 0 or 1: the variable has it.
+    /// 0 or 1, for the variable.
     Truth { to: u32 },
-    /// An index in the array, and a value of its type: that element has it.
+    /// An index in the array, and a value of its type for that element.
     Cell { array: u32 },
     /// One value of its type for each element of the array.
     Cells { array: u32 },
@@ -42,8 +42,8 @@ pub enum Take {
     Nothing,
 }
 
-/// A step of a program without calls. Variables and arrays are named by their numbers, from 0; `stmt` is the statement of the program at
-/// which a run ends that the node ends.
+/// A step of a program without calls. Variables and arrays have numbers, from 0. If the node ends the run,
+/// the run ends at the statement `stmt` of the program.
 pub enum Node {
     /// The variable `to` has the value of `from`.
     Set {
@@ -57,7 +57,8 @@ pub enum Node {
         t: CType,
         a: Operand,
     },
-    /// A binary operator that works in the type `t`, which is `I32` or `U32` (C90 6.3.5 to 6.3.12). It traps on a zero divisor.
+    /// A binary operator that works in the type `t`, which is `I32` or `U32` (C90 6.3.5 to 6.3.12). It traps
+    /// on a zero divisor.
     Binary {
         to: u32,
         op: BinOp,
@@ -86,25 +87,26 @@ pub enum Node {
         value: Operand,
         stmt: StmtId,
     },
-    /// All elements of the array have these values, one for each.
+    /// Sets all elements of the array to these values, one for each.
     Fill {
         array: u32,
         values: Vec<Operand>,
     },
-    /// An execution of a statement that may be relaxed. Where the place is, it uses up a choice: Keep runs `keep`, and the values of Take
-    /// do what `take` says. Where it isn't, `keep` runs. In the place, a turn of number 0 stands for the present turn of the loop.
+    /// An execution of a statement that may be relaxed. If its place is relaxed it uses up a choice: Keep
+    /// runs `keep`, and the values of Take do what `take` says. If it isn't relaxed, `keep` runs. An
+    /// iteration of number 0 in the place is the present iteration of its loop.
     Pick {
         place: Place,
         take: Take,
         keep: Vec<Node>,
     },
-    /// The one or the other, the first where the value isn't 0.
+    /// Runs the first nodes if the value isn't 0, and else the second.
     If {
         when: Operand,
         yes: Vec<Node>,
         no: Vec<Node>,
     },
-    /// The nodes of the body, which a `Leave` of the label can end.
+    /// Runs the nodes of the body. A `Leave` of the label ends them.
     Block {
         label: u32,
         body: Vec<Node>,
@@ -113,8 +115,9 @@ pub enum Node {
     Leave {
         label: u32,
     },
-    /// A loop: `head`, and where `when` isn't 0 then, `body`, `step` and again. Where `after` is true no `head` comes before the first
-    /// turn, as in a `do`. `stmt` is its condition, at which a run ends whose bound on turns it would pass.
+    /// A loop: `head`, and if `when` isn't 0 then, `body`, `step` and again. If `after` is true, no `head`
+    /// comes before the first iteration, as in a `do`. `stmt` is its condition: a run that passes the bound
+    /// on iterations ends there.
     Loop {
         after: bool,
         head: Vec<Node>,
@@ -123,12 +126,12 @@ pub enum Node {
         step: Vec<Node>,
         stmt: StmtId,
     },
-    /// An assertion, which fails where its value is 0.
+    /// An assertion, which fails if its value is 0.
     Assert {
         when: Operand,
         stmt: StmtId,
     },
-    /// The end of a run whose bound is passed.
+    /// Ends the run, because a bound is passed.
     Beyond {
         stmt: StmtId,
     },

@@ -6,8 +6,8 @@ ghost use Rattle.ba_code.specs.Facts.{is_loop_tree, is_bound_tree};
 use crate::nodes::{ArrayInfo, Node, Param};
 use ba_items::Items;
 
-/// The parts of a program without calls, which may fit together or not: how many variables there are, the arrays, what the parameters
-/// of `main` are given to, in their order, and the nodes.
+/// The parts of a program without calls, which may fit together or not. They are the number of variables, the
+/// arrays, the parameters of `main` in order, and the nodes.
 #[derive(Drop)]
 pub struct Code {
     pub vars: u32,
@@ -16,9 +16,11 @@ pub struct Code {
     pub body: Items<Node>,
 }
 
-/// A program without calls, whose parts fit together: each number in it names a variable or an array that is there, each `Leave` stands
-/// inside a block of its label, an array has 1 to 256 elements and a `Fill` one value for each, constants are in the range of `I32` or
-/// of `U32`, and operators work in one of these types.
+/// A program without calls, whose parts fit together:
+/// - each number names a declared variable or array
+/// - each `Leave` is inside a block of its label
+/// - an array has 1 to 256 elements, and a `Fill` one value for each
+/// - constants are in the range of `I32` or of `U32`, and operators work in one of these types
 pub struct LoopTree {
     pub vars: u32,
     pub arrays: Items<ArrayInfo>,
@@ -43,7 +45,8 @@ impl Drop for LoopTree {
     }
 }
 
-/// A program without calls and loops: what a [`LoopTree`] keeps holds of it, it has no `Loop`, and turns in its places are counted from 1.
+/// A program without calls and loops. What holds of a [`LoopTree`] holds of it, it has no `Loop`, and
+/// iterations in its places are counted from 1.
 pub struct BoundTree {
     pub vars: u32,
     pub arrays: Items<ArrayInfo>,

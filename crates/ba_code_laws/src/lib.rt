@@ -1,4 +1,4 @@
-//! Laws of programs without calls and loops: the places that their runs come to.
+//! A law of loop-free code: instrumented runs.
 #![tactic(auto)]
 
 ghost use Rattle.std.specs.Prelude.{◌≡◌, ℕ, true, List, []};
@@ -10,7 +10,7 @@ ghost use Rattle.ba_code.specs.declared.nodes.ArrayInfo.{ArrayInfo};
 ghost use Rattle.ba_code.specs.declared.nodes.Node.{Node};
 ghost use Rattle.ba_code_laws.specs.Tracing.{Relaxes, Traced, trace_nodes, without_trace};
 
-/// Law: a run that notes its places is the run, with its places beside it.
+/// Law: a run that notes its places has the same outcome as the run without them.
 pub fn places_change_no_run()
     ensures { (relaxes : Relaxes) (arrays : List ArrayInfo) (bound : ℕ) (nodes : List Node)
         (s : Traced)

@@ -83,7 +83,7 @@ noting places s = record { code = s; places = places }
 
 -- What a part comes to from the state s to its end with r in the state t. With the same choices at the same
 -- places it ends so again, whatever else may be relaxed, and with any choices that are wanted left. And the
--- traced run g of it, which may relax everything, notes these places, where it is known to be one.
+-- traced run g of it, which may relax everything, notes these places, if it is known to be one.
 pub record Replay {A : Type 0} (known : Type 0) (f : Relaxes → CodeAct A) (g : ActOn Traced A) (x : Relaxes)
     (s : CodeState) (r : Result A Halt) (t : CodeState) : Type 0 where
   pub visits : List Visit
@@ -119,7 +119,7 @@ replays_as {A = A} {known = known} {f = f} {f' = f'} {g = g} {g' = g'} same trac
       };
 }
 
--- more may be known; and nothing of the traced run, where it is no run of the part
+-- more may be known; and nothing of the traced run, if it is no run of the part
 pub replays_where : {A : Type 0} {known more : Type 0} {f : Relaxes → CodeAct A} {g : ActOn Traced A}
     → (more → known) → Replays known f g → Replays more f g
 replays_where {known = known} {f = f} {g = g} from replays = record {
@@ -298,7 +298,7 @@ keep_first : (b : Bool) → cond b true true ≡ true
 keep_first true = refl
 keep_first false = refl
 
--- a place as it stands in the code, and as it is come to
+-- a place as it is in the code, and as it is come to
 module _ (known : Type 0) (written at : Place) (same : known → written ≡ at) (arrays : List ArrayInfo)
     (take : code.Take) (f : Relaxes → CodeExecution) (g : TracedExecution) (replays : Replays known f g) where
   abbrev by_choice : Relaxes → CodeExecution

@@ -37,7 +37,7 @@ use Rattle.ba_code_visits.proofs.Replays.{is_wrong, noting, nothing, Replay, Rep
 
 -- PLACES
 
--- a place of the code as it is come to in these turns of the loops around
+-- a place of the code as it is come to in these iterations of the loops around
 abbrev in_turns_at : List ℕ → Place → Place
 in_turns_at turns place = record { path = reverse (path_in turns place.path); stmt = place.stmt }
 
@@ -57,7 +57,7 @@ module _ (code : Code) (bound : ℕ) where
   abbrev tracing : Node → TracedExecution
   tracing = trace_node everywhere code.arrays
 
-  -- a node has a traced run where it has no loop, and stands in none
+  -- a node has a traced run if it has no loop, and is in none
   abbrev ReplaysNode : Node → Type 0
   ReplaysNode n = (turns : List ℕ)
       → Replays ((is_unrolled n ≡ true) × (turns ≡ [])) (λ x. run_node (setting x) n turns) (tracing n)

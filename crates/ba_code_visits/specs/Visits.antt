@@ -11,16 +11,18 @@ use Rattle.ba_code_laws.specs.Visits.{Visit, are_kept, chosen}
 use Rattle.ba_tree.specs.declared.run.Input.{Input}
 use Rattle.ba_tree.specs.declared.run.Place.{Place}
 
+-- the places of executions, in order
 abbrev pub places_in : List Visit → List Place
 places_in = map (λ (visit : Visit). visit.place)
 
--- the choices at all places, as a run is given them that may relax everything
+-- the choices at all places, for a run that may relax everything
 abbrev pub choices_in : List Visit → List Choice
 choices_in = map (λ (visit : Visit). visit.choice)
 
--- The places that a run with these choices comes to, in order. Whatever else may be relaxed, the outcome is
--- the same as long as the choice at each place that may not be relaxed is Keep: these choices are left out, and
--- Keep is put in where more may be relaxed. In code without loops they are the places that a traced run notes.
+-- The places that a run with these choices comes to, in order. The run has the same outcome if other
+-- executions may be relaxed, as long as the others' choices are Keep. A choice Keep is left out if its
+-- execution may not be relaxed, and put in if it may. In loop-free code the places are those that an
+-- instrumented run notes.
 pub record HasVisits (code : Code) (i : Input) (bound : ℕ) (relaxes : Relaxes)
     (choices : List Choice) : Type 0 where
   pub visits : List Visit

@@ -1,4 +1,4 @@
-//! A law of programs without calls: choices of `Keep` can be left out, as in runs of a program.
+//! A law of code, with loops and without: choices of `Keep` can be left out, as in runs of programs.
 #![tactic(auto)]
 
 ghost use Rattle.std.specs.Prelude.{◌≢◌, ℕ, List};
@@ -10,11 +10,11 @@ ghost use Rattle.ba_code_visits.specs.Visits.{HasVisits};
 ghost use Rattle.ba_tree.specs.declared.run.Input.{Input};
 ghost use Rattle.ba_tree.specs.declared.run.Outcome.TheVariants.{WrongChoices};
 
-/// Law: choices of `Keep` can be left out, and put in, where code is run, with loops and without.
+/// Law: choices of `Keep` can be left out and put in, in code with loops and without.
 ///
-/// A run whose choices aren't wrong comes to places, with a choice each. Whatever else may be
-/// relaxed, the choices that then remain give the same outcome, as long as `Keep` is the choice at
-/// all other places. Without loops a traced run notes these places.
+/// A run whose choices aren't wrong comes to places, each with a choice. Other executions may be relaxed,
+/// with the same outcome, as long as `Keep` is the choice at all other places. In loop-free code an
+/// instrumented run notes these places.
 pub fn keep_choices_can_be_left_out_of_code()
     ensures { (code : Code) (i : Input) (bound : ℕ) (relaxes : Relaxes) (choices : List Choice)
         → outcome_of_code code i bound relaxes choices ≢ WrongChoices

@@ -17,7 +17,7 @@ use Rattle.ba_checker.specs.Splits.{is_soft, split_clauses}
 use Rattle.ba_checker.specs.States.{Kept, kept, State, clause_at, live_lits}
 use Rattle.ba_checker.specs.declared.store.Origin.TheVariants as origins
 use Rattle.ba_choices.specs.Judges.{Judge}
-use Rattle.ba_checker.specs.Judging.{error_if, lacks_variable, is_spent, lacks_soft, error_of_replay, error_of, after}
+use Rattle.ba_checker.specs.StepRules.{error_if, lacks_variable, is_spent, lacks_soft, error_of_replay, error_of, after}
 use Rattle.ba_checker.specs.Facts.{Differs, AreDifferent, AreAmong}
 use Rattle.ba_search.specs.Searching.{ArePart}
 use Rattle.ba_search.specs.Answers.{AreAssumptions, IsCore}

@@ -12,7 +12,7 @@ use Rattle.ba_steps.specs.declared.step.CertStep.{CertStep}
 use Rattle.ba_steps.specs.declared.step.CertStep.TheVariants.{Learn, Core, Delete}
 use Rattle.ba_checker.specs.States.{State, first_state}
 use Rattle.ba_choices.specs.Judges.{Judge}
-use Rattle.ba_checker.specs.Judging.{error_of, after, after_all}
+use Rattle.ba_checker.specs.StepRules.{error_of, after, after_all}
 use Rattle.ba_checker.specs.Puts.{Checking, IsTakenOrAsleep, Lasts, LeavesSteps, leaves_all, leaves_last}
 use Rattle.ba_checker.proofs.PutLaws.{logs_then, leaves_weaker, leaves_after}
 use Rattle.ba_checker.proofs.FactLaws.{next_allowed, after_append}

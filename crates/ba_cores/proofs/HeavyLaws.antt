@@ -77,7 +77,7 @@ heavy_core s weight lits hints back core = record {
   left = core.left;
 }
 
--- where none is lighter they are all
+-- if none is lighter they are all
 heavy_if : (b : Bool) (s : Soft) (kept rest : List Soft) → b ≡ false → kept ≡ rest →
     cond (not b) (s ∷ kept) kept ≡ s ∷ rest
 heavy_if true s kept rest light same = absurd (cc light)

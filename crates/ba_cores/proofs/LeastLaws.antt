@@ -11,7 +11,7 @@ use Rattle.ba_lits.proofs.Satisfied.{cost-agree}
 use Rattle.ba_checker.specs.States.{Kept, State, clause_at, present, first_state}
 use Rattle.ba_choices.specs.Judges.{Judge}
 use Rattle.ba_checker.specs.Puts.{Checking}
-use Rattle.ba_checker.specs.Judging.{error_of_replay}
+use Rattle.ba_checker.specs.StepRules.{error_of_replay}
 use Rattle.ba_checker.specs.Facts.{IsLive, Holds, splits_of}
 use Rattle.ba_checker.specs.Blocks.{block_clauses}
 use Rattle.ba_checker.proofs.FactLaws.{facts_hold, follows_true, among-below}
@@ -21,7 +21,7 @@ use Rattle.ba_cores.specs.Findings.{IsLeast, IsFound}
 use Rattle.ba_cores.specs.declared.costs.Found.TheVariants.{NoModel}
 use Rattle.ba_cores.specs.Rounds.{literals_of}
 
--- clauses hold where each does
+-- clauses hold if each does
 pub all_of_each : (v : Assignment) (cs : List (List Literal)) →
     ((k : ℕ) → k < length cs → any_true v (get_or cs k []) ≡ true) → all_true v cs ≡ true
 all_of_each v [] each = refl
@@ -55,7 +55,7 @@ reached_facts : (good : Judge) (formula : Cnf) (softs : List Soft) (s : State)
 reached_facts good formula softs s r = facts_hold good formula softs r.conflicts r.sets r.start r.steps
     r.formed s r.reached
 
--- where no set is blocked, no clause is to be satisfied beside the formula's
+-- if no set is blocked, no clause is to be satisfied beside the formula's
 none_to_block : (softs : List Soft) (s : State) (v : Assignment) → s.sets ≡ [] →
     all_true v (block_clauses softs s.sets) ≡ true
 none_to_block softs s v none = ap (λ sets. all_true v (block_clauses softs sets)) none
@@ -98,7 +98,7 @@ least_of_model good formula softs s values m none r =
     least_of_facts good formula softs (splits_of (first_state formula softs r.conflicts r.sets) r.steps) s
     values (reached_facts good formula softs s r) none m
 
--- where the empty clause follows there is no model
+-- if the empty clause follows there is no model
 pub none_of_empty : (good : Judge) (formula : Cnf) (softs : List Soft) (s : State) (hints : List ℕ) →
     FollowsByHints (clause_at s.clauses) [] hints → s.sets ≡ [] → IsReached good formula softs s →
     (v : Assignment) → all_true v formula.clauses ≡ true → ⊥

@@ -1,4 +1,4 @@
--- Derivations by Learn, Delete and Core steps, and where they start.
+-- Derivations by Learn, Delete and Core steps, and their starts.
 
 use Rattle.std.specs.Prelude.{◌≡◌, ℕ, None, Some, List, [], ◌∷◌, All}
 use Rattle.ba_lits.specs.Literals.{Literal}
@@ -10,13 +10,12 @@ use Rattle.ba_steps.specs.declared.step.CertStep.{CertStep}
 use Rattle.ba_steps.specs.declared.step.CertStep.TheVariants.{Learn, Core, Delete}
 use Rattle.ba_checker.specs.States.{State, clause_at, first_state}
 use Rattle.ba_choices.specs.Judges.{Judge}
-use Rattle.ba_checker.specs.Judging.{error_of, after, after_all}
+use Rattle.ba_checker.specs.StepRules.{error_of, after, after_all}
 use Rattle.ba_checker.specs.Facts.{IsStart}
 use Rattle.ba_checker.specs.Puts.{Checking, LeavesSteps}
 
--- Learn, Delete and Core steps lead from one state of a checker to another: each has the form that its text
--- asks for and is allowed, and the clause of a Learn step is new to propagation for the clauses that are live
--- at that moment
+-- Learn, Delete and Core steps lead from one state of a checker to another. Each is formed and allowed. The
+-- clause of a Learn step is new to propagation for the clauses that are live at that moment.
 pub data Derives (good : Judge) : State → List CertStep → State → Type 0 where
   derives_none : (s : State) → Derives good s [] s
   derives_learn : (s t : State) (lits : List Literal) (hints : List ℕ) (steps : List CertStep) →

@@ -11,15 +11,15 @@ use Rattle.ba_cores.specs.Derivations.{IsReached}
 use Rattle.ba_cores.specs.declared.costs.Found.{Found}
 use Rattle.ba_cores.specs.declared.costs.Found.TheVariants.{Least, NoModel, Spent}
 
--- values that satisfy the formula and cost this weight, and no model costs less
+-- values that satisfy the formula and cost this weight, such that no model costs less
 pub record IsLeast (formula : Cnf) (softs : List Soft) (weight : ℕ) (values : List Bool) : Type 0 where
   pub satisfies : all_true (assignment_of values) formula.clauses ≡ true
   pub costs : cost (assignment_of values) (present softs) ≡ weight
   pub least : (v : Assignment) → all_true v formula.clauses ≡ true → weight ≤ cost v (present softs)
 
--- what is found between two states of a log: a model of least cost, which is the bound, with a value for each
--- variable; that there is no model, with hints, numbers of a step, by which the empty clause follows, while
--- conflicts are left; or that the conflicts are spent
+-- What is found between two states of a log. Either a model of least cost, with a value for each variable;
+-- its cost is the bound. Or that there is no model; the empty clause follows by the hints, and the conflicts
+-- are not spent. Or that the conflicts are spent.
 abbrev pub IsFound : Checking → Checking → Found → Type 0
 IsFound old new (Least weight model) =
     (weight ≡ new.checker.bound) × (length model.values ≡ new.checker.variables)

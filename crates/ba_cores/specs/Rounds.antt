@@ -19,7 +19,7 @@ literals_of softs = map (λ (s : Soft). s.0) softs
 abbrev pub heavy : ℕ → List Soft → List Soft
 heavy weight softs = filter (λ (s : Soft). not (ltb s.1 weight)) softs
 
--- a checker that takes Core steps
+-- a checker that still takes Core steps
 pub record IsReady (s : State) : Type 0 where
   pub begun : s.ended ≡ false
   pub awake : s.refused ≡ false
@@ -35,21 +35,20 @@ pub record HasPut {R : Type 0} (search : Searching R) (old new : Checking) : Typ
   pub goes_on : MayGoOn search new
   pub puts : Puts old new
 
--- a search for the least cost may start with a log: it has its live clauses, no step was refused, and no set
--- is blocked
+-- A search for the least cost may start with a log. Both have the same live clauses, no step was refused, and
+-- no set is blocked.
 pub record MayStart {R : Type 0} (search : Searching R) (log : Checking) : Type 0 where
   pub same : AreLive search.clauses (clause_at log.checker.clauses)
   pub fresh : log.refusal ≡ None
   pub ready : IsReady log.checker
 
--- a search stands between two rounds: it may go on, and the checker takes Core steps
+-- a search is between two rounds: it may go on, and the checker still takes Core steps
 pub record Stands {R : Type 0} (search : Searching R) (log : Checking) : Type 0 where
   pub goes_on : MayGoOn search log
   pub ready : IsReady log.checker
 
--- what a round comes to: what is found; or nothing, and then fewer conflicts are left, or the soft literals
--- that are assumed get lighter, the weight from which on they are assumed being a second one in place of a
--- first
+-- What a round gives: what is found; or nothing, and then fewer conflicts are left, or lighter soft literals
+-- are assumed. The two numbers are the least assumed weights before and after.
 abbrev pub EndsRound : Checking → Checking → ℕ → ℕ → Option Found → Type 0
 EndsRound old new before next (Some found) = IsFound old new found
 EndsRound old new before next None =

@@ -14,7 +14,7 @@ use ba_lits::Model;
 use ba_search::{Search, SearchError, SearchRules};
 use std::alloc::Global;
 
-/// What the least cost is.
+/// What the search for the least cost finds.
 #[derive(Drop)]
 pub enum Found {
     /// The least cost of the formula's models, and a model of that cost.
@@ -25,11 +25,11 @@ pub enum Found {
     Spent,
 }
 
-/// The least cost of the models of the formula that the checker started from: the sum of the weights of its soft
-/// literals that are false. Learn, Delete and Core steps are put on the way.
+/// The least cost of the models of the formula that the checker started from. A model costs the sum of the
+/// weights of its false soft literals. Learn, Delete and Core steps are put on the way.
 ///
-/// `SinkFailed` comes only where the sink's faults rose, or the search answered it before; `Memory` for want of memory.
-/// Steps that were put before an error stay put.
+/// `SinkFailed` comes only if the sink's faults rose, or the search answered it before; `Memory` if memory
+/// runs out. Steps that were put before an error stay put.
 pub fn least<L: ProofLog, R: SearchRules + Drop>(
     alloc: Global,
     search: &mut Search<R>,

@@ -1,5 +1,5 @@
-//! One round of the search for the least cost: a search under the heavy ones of the present soft literals, and what its
-//! answer means.
+//! One round of the search for the least cost: a search under the heavy soft literals, and the use of its
+//! answer.
 
 ghost use Rattle.std.specs.Prelude.{◌≡◌, ◌-◌, ◌<◌, ◌≤◌, ◌∷◌, ◌++◌, [], None, true, false, length, IfOk, IfSome, IfNone, OnOk, Err};
 ghost use Rattle.ba_search.specs.Answers.{IsAnswer, IsCore, IsModel};
@@ -16,11 +16,11 @@ use ba_search::{Answer, Search, SearchError, SearchRules};
 use ba_steps::CertStep;
 use std::alloc::{AllocError, Global};
 
-/// Searches once for a model that satisfies the present soft literals of at least a weight. What is found, or nothing
-/// where a core came back, which was then put as a step, or a model while there are lighter ones; the weight is then a
-/// smaller one.
+/// Searches once for a model that satisfies the present soft literals of at least `weight`. It gives what is
+/// found. It gives nothing after a core, which was put as a step. It gives nothing after a model if there are
+/// lighter soft literals; the weight is then smaller.
 ///
-/// `SinkFailed` comes only where the sink's faults rose; `Memory` for want of memory.
+/// `SinkFailed` comes only if the sink's faults rose; `Memory` if memory runs out.
 pub fn round<L: ProofLog, R: SearchRules + Drop>(
     alloc: Global,
     search: &mut Search<R>,
@@ -41,10 +41,10 @@ pub fn round<L: ProofLog, R: SearchRules + Drop>(
     take_answer(search, log, weight, answer)
 }
 
-/// Takes what a search under the soft literals of at least a weight answers: a model, which is of least cost where there
-/// are no lighter ones, or a core.
+/// Uses the answer of a search under the soft literals of at least `weight`. A model is of least cost if
+/// there are no lighter ones.
 ///
-/// `SinkFailed` comes only where the sink's faults rose; `Memory` for want of memory.
+/// `SinkFailed` comes only if the sink's faults rose; `Memory` if memory runs out.
 fn take_answer<L: ProofLog, R: SearchRules + Drop>(
     search: &mut Search<R>,
     log: &mut L,
@@ -66,8 +66,8 @@ fn take_answer<L: ProofLog, R: SearchRules + Drop>(
     }
 }
 
-/// Takes a model of the soft literals of at least a weight. It is of least cost where there are no lighter ones; else
-/// the weight gets smaller.
+/// Uses a model of the soft literals of at least `weight`. It is of least cost if there are no lighter ones;
+/// else the weight gets smaller.
 fn take_model<L: ProofLog>(log: &L, weight: &mut u32, model: Model) -> Option<Found>
     requires model { IsModel (L.log log.now).checker
         (literals_of (heavy weight.old (L.log log.now).checker.softs)) model.values }
@@ -86,9 +86,9 @@ fn take_model<L: ProofLog>(log: &L, weight: &mut u32, model: Model) -> Option<Fo
     })
 }
 
-/// Takes a core: without a literal it says that there is no model, else it is put as a step.
+/// Uses a core: without literals it shows that there is no model, else it is put as a step.
 ///
-/// `SinkFailed` comes only where the sink's faults rose; `Memory` for want of memory.
+/// `SinkFailed` comes only if the sink's faults rose; `Memory` if memory runs out.
 fn take_core<L: ProofLog, R: SearchRules + Drop>(
     search: &mut Search<R>,
     log: &mut L,
@@ -109,9 +109,9 @@ fn take_core<L: ProofLog, R: SearchRules + Drop>(
     Ok(None)
 }
 
-/// Puts a core with literals as a step, and hands the new clauses to the search.
+/// Puts a core with literals as a step, and gives the new clauses to the search.
 ///
-/// `SinkFailed` comes only where the sink's faults rose; `Memory` for want of memory.
+/// `SinkFailed` comes only if the sink's faults rose; `Memory` if memory runs out.
 fn put_core<L: ProofLog, R: SearchRules + Drop>(
     search: &mut Search<R>,
     log: &mut L,
@@ -140,7 +140,7 @@ fn put_core<L: ProofLog, R: SearchRules + Drop>(
 
 /// The soft literals of at least a weight, without their weights, in their order.
 ///
-/// The one error is want of memory.
+/// The only error is out of memory.
 fn heavy_literals(alloc: Global, softs: &[(Lit, u32)], weight: u32) -> Result<Vec<Lit>, AllocError>
     ensures { IfOk result (λ lits. lits.items ≡ literals_of (heavy weight softs.now)) }
 {
@@ -153,7 +153,7 @@ fn heavy_literals(alloc: Global, softs: &[(Lit, u32)], weight: u32) -> Result<Ve
 
 /// Adds a soft literal of at least a weight.
 ///
-/// The one error is want of memory.
+/// The only error is out of memory.
 fn add_heavy(lits: &mut Vec<Lit>, soft: (Lit, u32), weight: u32) -> Result<(), AllocError>
     ensures { OnOk result (lits.new.items ≡ lits.old.items
         ++ literals_of (heavy weight (soft ∷ []))) }
@@ -182,7 +182,7 @@ pub fn heaviest(softs: &[(Lit, u32)]) -> u32 {
     next_weight(softs, u32::MAX)
 }
 
-/// The greatest weight of the soft literals of less than a weight.
+/// The greatest weight of the soft literals that is below `weight`.
 fn next_weight(softs: &[(Lit, u32)], weight: u32) -> u32 {
     let mut heaviest = 0;
     for soft in softs {

@@ -7,7 +7,7 @@ use Rattle.std.specs.List.{slice_get}
 use Rattle.ba_lits.specs.Literals.{Literal, negate}
 use Rattle.ba_lits.specs.Satisfaction.{Assignment, Soft, signed, lit_true, any_true, cost}
 use Rattle.ba_steps.specs.Steps.{AreAbove}
-use Rattle.ba_checker.specs.Blocks.{entry_of, entry_weight, weight_at, set_weight, lacks_group, placed, with_selector, block_clause}
+use Rattle.ba_checker.specs.Blocks.{entry_of, entry_weight, weight_at, set_weight, lacks_group, inserted, with_selector, block_clause}
 use Rattle.ba_checker.specs.States.{present}
 use Rattle.ba_checker.proofs.BlockLaws.{heavy}
 use Rattle.ba_tree.specs.Least as least
@@ -72,7 +72,7 @@ abbrev pub AreFalse : Assignment → List Soft → List ℕ → Type 0
 AreFalse v softs [] = Unit {0}
 AreFalse v softs (n ∷ ns) = (is_false_at v (entry_of softs n) ≡ true) × AreFalse v softs ns
 
--- the one weighs no more, and as much only where this holds
+-- the one weighs no more, and as much only if this holds
 abbrev pub IsWithin : ℕ → ℕ → Type 0 → Type 0
 IsWithin a b P = (a ≤ b) × (b ≤ a → P)
 
@@ -92,7 +92,7 @@ false_more v softs k s set rest here (within, same) true is =
     (omega (arith, within, some), λ le. absurd (omega (arith, within, some, le)))
 false_more v softs k s set rest here within false is = within
 
--- a set of false groups weighs no more than all of them, and as much only where it is all of them
+-- a set of false groups weighs no more than all of them, and as much only if it is all of them
 compare_from : (v : Assignment) (softs : List Soft) (k : ℕ) (ss : List Soft) → AreFrom softs k ss →
     (set : List ℕ) →
     AreAbove k set → AreFalse v softs set →
@@ -150,19 +150,20 @@ pub compare : (v : Assignment) (softs : List Soft) (set : List ℕ) → AreAbove
     IsWithin (set_weight softs set) (set_weight softs (false_groups v softs)) (set ≡ false_groups v softs)
 compare v softs set = compare_from v softs 0 softs (from_start softs) set
 
--- THE CLAUSE OF A BLOCKED SET is false exactly where all its groups are
+-- THE CLAUSE OF A BLOCKED SET is false exactly if all its groups are
 swap : (a b c : Bool) → (a || (b || c)) ≡ (b || (a || c))
 swap true true c = refl
 swap true false c = refl
 swap false b c = refl
 
-placed_true : (v : Assignment) (l : Literal) (lits : List Literal) →
-    any_true v (placed l lits) ≡ (lit_true v l || any_true v lits)
-placed_true v l [] = refl
-placed_true v l (m ∷ ms) = by_case (ltb l.variable m.variable) (placed_true v l ms)
+inserted_true : (v : Assignment) (l : Literal) (lits : List Literal) →
+    any_true v (inserted l lits) ≡ (lit_true v l || any_true v lits)
+inserted_true v l [] = refl
+inserted_true v l (m ∷ ms) = by_case (ltb l.variable m.variable) (inserted_true v l ms)
   where
-    by_case : (t : Bool) → any_true v (placed l ms) ≡ (lit_true v l || any_true v ms) →
-        any_true v (cond t (l ∷ m ∷ ms) (m ∷ placed l ms)) ≡ (lit_true v l || (lit_true v m || any_true v ms))
+    by_case : (t : Bool) → any_true v (inserted l ms) ≡ (lit_true v l || any_true v ms) →
+        any_true v (cond t (l ∷ m ∷ ms) (m ∷ inserted l ms)) ≡ (lit_true v l || (lit_true v m || any_true v
+        ms))
     by_case true rest = refl
     by_case false rest = ap (λ b. lit_true v m || b) rest ∙ swap (lit_true v m) (lit_true v l) (any_true v ms)
 
@@ -179,7 +180,7 @@ falsified v softs (n ∷ ns) exist is_false =
     by_case rest None e none clause = cc
     by_case rest (Some s) e some clause =
         let parts = or_parts (lit_true v s.0) (any_true v (block_clause softs ns))
-        (sym (placed_true v s.0 (block_clause softs ns)) ∙ clause) in (
+        (sym (inserted_true v s.0 (block_clause softs ns)) ∙ clause) in (
           ap (is_false_at v) e ∙ and_from (ltb 0 s.1) (not (lit_true v s.0)) (heavy s.1 some) (ap not
               parts.0),
           rest parts.1,

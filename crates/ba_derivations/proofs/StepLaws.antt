@@ -10,7 +10,7 @@ use Rattle.ba_steps.specs.declared.step.CertStep.TheVariants.{Learn, Core, Delet
 use Rattle.ba_steps.specs.declared.step.StepError.TheVariants.{AfterEnd, BadVariable, Memory, RunNotGood, SetTwice, WrongWeight}
 use Rattle.ba_checker.specs.Blocks.{lacks_group, is_among, set_weight}
 use Rattle.ba_choices.specs.Judges.{Judge}
-use Rattle.ba_checker.specs.Judging.{error_if, error_of, error_before_end, after, after_all}
+use Rattle.ba_checker.specs.StepRules.{error_if, error_of, error_before_end, after, after_all}
 use Rattle.ba_checker.specs.States.{State}
 use Rattle.ba_checker.proofs.FactLaws.{allowed, no_error}
 use Rattle.ba_derivations.specs.declared.verdict.FoundSet.{FoundSet}

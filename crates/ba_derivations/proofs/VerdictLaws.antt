@@ -18,7 +18,7 @@ use Rattle.ba_steps.specs.declared.step.CertStep.TheVariants.{Learn, Core, Delet
 use Rattle.ba_steps.specs.declared.step.StepError.TheVariants.{BadVariable, NotSofts, WrongCount}
 use Rattle.ba_checker.specs.Blocks.{block_clause, block_clauses, set_weight}
 use Rattle.ba_checker.specs.Facts.{Holds, IsBlocked, IsStart, all_lits, splits_of}
-use Rattle.ba_checker.specs.Judging.{error_if, error_of, hint_error, is_spent, lacks_soft, lacks_variable, are_too_many}
+use Rattle.ba_checker.specs.StepRules.{error_if, error_of, hint_error, is_spent, lacks_soft, lacks_variable, are_too_many}
 use Rattle.ba_checker.specs.Splits.{is_soft}
 use Rattle.ba_checker.specs.States.{State}
 use Rattle.ba_checker.proofs.FactLaws.{facts_hold, follows_true, no_error}
@@ -30,7 +30,7 @@ use Rattle.ba_derivations.specs.Encodings.{HasModelFor, IsFaithful, false_groups
 use Rattle.ba_derivations.proofs.GroupLaws.{compare, cost_is, falsified, negate_false, relaxable, weight_same}
 use Rattle.ba_derivations.proofs.StepLaws.{before_end, blocked_append, conflicts_append, conflicts_counted, front_formed, limits_stay, runs_good, sets_gathered}
 
--- A CLAUSE THAT NEGATES SOFT LITERALS costs at least 1 where it is true
+-- A CLAUSE THAT NEGATES SOFT LITERALS costs at least 1 if it is true
 false_soft : (v : Assignment) (softs : List Soft) (l : Literal) → All (λ (s : Soft). 1 ≤ s.1) softs →
     has_literal l (map (λ (s : Soft). s.0) softs) ≡ true → lit_true v l ≡ false → 1 ≤ cost v softs
 false_soft v [] l weighty has is_false = cc
@@ -63,8 +63,8 @@ costs_some v softs (l ∷ ls) weighty negates holds =
     by_case rest true e some soft = false_soft v softs (negate l) weighty soft (negate_false v l e)
     by_case rest false e some soft = rest some
 
--- A SET WITH A MODEL in a state: it is blocked, and so weighs the bound; it is heavier; or some assignment
--- satisfies all clauses, and it weighs the bound and the cost of that assignment
+-- A SET WITH A MODEL in a state is blocked, and so weighs the bound; or it is heavier. Or some assignment
+-- satisfies all clauses, and the set weighs the bound and that assignment's cost.
 pub data Stands (s : State) (set : List ℕ) (weight : ℕ) : Type 0 where
   is_blocked : Contains s.sets set → weight ≡ s.bound → Stands s set weight
   is_heavier : s.bound < weight → Stands s set weight
@@ -147,7 +147,7 @@ module _ (good : Judge) (formula : Cnf) (softs : List Soft) (splits : List (List
     | is_free z lives weight ↦ omega (arith, weight)
   ]
 
-  -- where a clause of negated soft literals follows, every other set with a model weighs more
+  -- if a clause of negated soft literals follows, every other set with a model weighs more
   pub model_blocked : (lits : List Literal) (hints : List ℕ) → lacks_soft s.softs lits ≡ false →
       hint_error s lits hints ≡ None → (set : List ℕ) → HasModelFor formula softs set →
       set_weight softs set ≤ s.bound → Contains s.sets set
@@ -198,7 +198,7 @@ module _ (good : Judge) (formula : Cnf) (softs : List Soft) (weights : WeightLis
         omega (arith, own, bound);
   }
 
-  -- where a clause of negated soft literals follows, every other feasible set weighs more
+  -- if a clause of negated soft literals follows, every other feasible set weighs more
   pub all_blocked : (lits : List Literal) (hints : List ℕ) → lacks_soft s.softs lits ≡ false →
       hint_error s lits hints ≡ None → (set : List ℕ) → IsRelaxableSet weights set → IsFeasible good set →
       weight_of weights set ≤ s.bound → Contains s.sets set

@@ -10,20 +10,23 @@ use Rattle.ba_choices.specs.Judges.{Judge}
 use Rattle.ba_tree.specs.Least.{WeightList, IsFeasible, IsRelaxableSet, weight_at}
 
 -- THE SET OF AN ASSIGNMENT. Entry n - 1 of a list of soft literals is the selector of group n, with its
--- weight; an entry of weight 0 stands for no group. The groups of an assignment are those whose selectors
--- are false, by ascending numbers.
+-- weight. An entry of weight 0 is no group. The groups of an assignment are those whose selectors are false,
+-- by ascending numbers.
 
+-- the group has a weight, and its selector is false
 abbrev pub is_false_group : Assignment → Soft → Bool
 is_false_group v s = ltb 0 s.1 && not (lit_true v s.0)
 
+-- the numbers with `n` before them, if the condition holds
 abbrev pub with_if : Bool → ℕ → List ℕ → List ℕ
 with_if b n ns = cond b (n ∷ ns) ns
 
--- of entries that stand behind so many
+-- the same for entries from a number on
 abbrev pub false_groups_from : ℕ → Assignment → List Soft → List ℕ
 false_groups_from k v [] = []
 false_groups_from k v (s ∷ ss) = with_if (is_false_group v s) (suc k) (false_groups_from (suc k) v ss)
 
+-- the groups that an assignment gives up, by their numbers from 1
 abbrev pub false_groups : Assignment → List Soft → List ℕ
 false_groups = false_groups_from 0
 
@@ -32,18 +35,21 @@ pub record IsModelFor (formula : Cnf) (softs : List Soft) (set : List ℕ) (v : 
   pub satisfies : all_true v formula.clauses ≡ true
   pub groups_are : false_groups v softs ≡ set
 
+-- some model of the formula gives up exactly the groups of the set
 pub record HasModelFor (formula : Cnf) (softs : List Soft) (set : List ℕ) : Type 0 where
   pub assignment : Assignment
   pub is_model : IsModelFor formula softs set assignment
 
--- the weight of a group, where 0 stands for no group
+-- the weight of a group; 0 is no group
 abbrev pub weight_if : ℕ → Option ℕ
 weight_if w = cond (w == 0) None (Some w)
 
--- A formula and its soft literals encode a judge FAITHFULLY: its clauses are clauses over its variables, the
--- soft literals are selectors, positive literals of different variables; the groups are the relaxable statements
--- with their weights; and the formula has a model under which exactly the groups of a set are false where, and
--- only where, some run is good for that set.
+-- A formula and its soft literals encode a judge FAITHFULLY.
+-- - Its clauses are over its variables, and the soft literals are positive literals of different variables,
+--   the selectors.
+-- - The groups are the relaxable statements with their weights.
+-- - For each set, the formula has a model under which exactly its groups are false if, and only if, some run
+--   is good for it.
 pub record IsFaithful (formula : Cnf) (softs : List Soft) (weights : WeightList) (good : Judge) : Type 0 where
   pub clauses : All (IsClause formula.variables) formula.clauses
   pub selectors : AreSelectors formula.variables softs

@@ -1,4 +1,4 @@
--- DERIVATIONS that are handed to a sink of steps.
+-- DERIVATIONS handed to a sink of steps.
 
 use Rattle.std.specs.Prelude.{◌≡◌, ℕ, List}
 use Rattle.ba_checker.specs.Puts.{with_steps}
@@ -13,13 +13,12 @@ pub record Derivation : Type 0 where
   pub begun : Basis
   pub steps : List CertStep
 
--- it was handed to a sink: the formula was begun, and each log has the steps more
+-- a derivation was handed to a sink: the formula was begun, and the steps were added to each log
 pub record Hands (d : Derivation) (old new : Told) : Type 0 where
   pub over : new.over ≡ with_told d.begun old.over
   pub logs : new.logs ≡ with_steps d.steps old.logs
 
--- the problem that it is about, where runs are good as a judge says, and so many conflicts and sets are
--- allowed
+-- the problem of a derivation, with a judge and the limits on conflicts and sets
 abbrev pub problem_of : Derivation → Judge → ℕ → ℕ → Problem
 problem_of d good conflicts most = record {
   formula = d.begun.formula;

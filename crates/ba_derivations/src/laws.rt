@@ -12,8 +12,8 @@ ghost use Rattle.ba_checker.specs.Facts.{IsStart};
 ghost use Rattle.ba_tree.specs.Least.{AreInOrder, AreLeast, WeightList};
 ghost use Rattle.ba_choices.specs.Judges.{Judge};
 
-/// Over a faithful encoding, the sets of a derived verdict `Located` are exactly the least sets, all
-/// of the verdict's weight.
+/// Law: over a faithful encoding, the sets of a derived verdict `Located` are exactly the least sets, all of
+/// the verdict's weight.
 pub fn located_law()
     ensures { (weights : WeightList) (p : Problem) (steps : List CertStep)
         (weight : ℕ) (found : List (List ℕ))
@@ -21,20 +21,20 @@ pub fn located_law()
         → AreAllLeast weights p.good weight found }
 {}
 
-/// All least sets, put in order, are the list of them.
+/// Law: all least sets, put in order, are the list of them.
 pub fn order_law()
     ensures { (weights : WeightList) (good : Judge) (weight : ℕ) (found sets : List (List ℕ))
         → AreAllLeast weights good weight found → HaveSameSets sets found → AreInOrder sets
         → AreLeast weights good sets }
 {}
 
-/// Where `NoRepair` is derived over a faithful encoding, no set is feasible, and so none is least.
+/// Law: if `NoRepair` is derived over a faithful encoding, no set is feasible, and so none is least.
 pub fn no_repair_law()
     ensures { (weights : WeightList) (p : Problem) (steps : List CertStep)
         → DerivesOver weights p steps NoRepair → AreLeast weights p.good [] }
 {}
 
-/// Over a faithful encoding, the sets of a derived verdict `TooMany` are least sets that differ, one
+/// Law: over a faithful encoding, the sets of a derived verdict `TooMany` are least sets that differ, one
 /// more than may be listed.
 pub fn too_many_law()
     ensures { (weights : WeightList) (p : Problem) (steps : List CertStep)
@@ -43,9 +43,9 @@ pub fn too_many_law()
         → AreTooMany weights p.good weight p.most_sets found }
 {}
 
-/// Where each set that is found is that of a model, as a search finds them that reads its sets from
-/// models, nothing need be known of the judge: the sets of `Located` are exactly those of models of
-/// least weight, and those of `TooMany` are such, differ, and are one more than may be listed.
+/// Law, without any premise on the judge, if each set that is found is that of a model. The sets of `Located`
+/// are exactly those of models of least weight. Those of `TooMany` are such, differ, and are one more than
+/// may be listed.
 pub fn models_law()
     ensures located { (p : Problem) (steps : List CertStep) (weight : ℕ) (found : List (List ℕ))
         → IsStart p.formula p.softs → All (HasModelFor p.formula p.softs) found
@@ -57,7 +57,7 @@ pub fn models_law()
         → AreTooManyModelSets p.formula p.softs weight p.most_sets found }
 {}
 
-/// The sets of a verdict are those that the steps block, in their order.
+/// Law: the sets of a verdict are those that the steps block, in their order.
 pub fn blocked_law()
     ensures located { (p : Problem) (steps : List CertStep) (weight : ℕ) (found : List (List ℕ))
         → Derives p steps (Located weight found) → found ≡ sets_of (blocked_by steps) }
@@ -65,13 +65,13 @@ pub fn blocked_law()
         → Derives p steps (TooMany weight found) → found ≡ sets_of (blocked_by steps) }
 {}
 
-/// Each set is blocked with a run that is good for it.
+/// Law: each set is blocked with a run that is good for it.
 pub fn good_runs_law()
     ensures { (p : Problem) (steps : List CertStep) (verdict : Verdict)
         → Derives p steps verdict → All (IsGood p.good) (blocked_by steps) }
 {}
 
-/// Where `Spent` is derived, the steps hold exactly the stated number of conflicts.
+/// Law: if `Spent` is derived, the steps hold exactly the stated number of conflicts.
 pub fn spent_law()
     ensures { (p : Problem) (steps : List CertStep)
         → Derives p steps Spent → conflicts_in steps ≡ p.conflicts }

@@ -1,5 +1,4 @@
-//! What the steps of a derivation derive, and that over a faithful encoding they give exactly the
-//! least sets.
+//! Soundness of the proof system, as laws: over a faithful encoding steps derive exactly the least sets.
 #![tactic(auto)]
 
 pub mod laws;

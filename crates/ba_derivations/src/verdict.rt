@@ -1,10 +1,9 @@
-//! What a search finds: sets of groups with runs, and the verdict.
+//! The verdicts of a search, and the sets of groups with their runs.
 
 use ba_choices::Choice;
 use ba_items::Items;
 
-/// A set of groups, by ascending numbers from 1, and the choices of a run that is good where they are
-/// relaxed.
+/// A set of groups, by ascending numbers from 1, and the choices of a run that is good if they are relaxed.
 pub struct FoundSet {
     pub groups: Items<u32>,
     pub run: Items<Choice>,
@@ -16,7 +15,7 @@ impl Drop for FoundSet {
     }
 }
 
-/// What a search comes to.
+/// The verdict of a search.
 pub enum Verdict {
     /// These are all sets of least weight, in order, and this is their weight.
     Located { weight: u64, sets: Items<FoundSet> },

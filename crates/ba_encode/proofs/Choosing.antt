@@ -17,7 +17,7 @@ use Rattle.ba_nodes.specs.declared.Bit.{Bit}
 use Rattle.ba_numbers.specs.Numbers.{converted}
 use Rattle.ba_words.specs.Words.{spelled, word_type}
 
--- what executions as bits give, where bits have these values
+-- what executions as bits give, if bits have these values
 abbrev pub number_with : (Bit → Bool) → ValueBits → ℤ
 number_with t value = converted (word_type value.signed) (pos (spelled (map t value.bits)))
 

@@ -45,7 +45,7 @@ all-both : {X : Type 0} (P : X → Type 0) (xs ys : List X) → AllByRecursion P
 all-both P [] ys left right = right
 all-both P (x ∷ xs) ys left right = (left.0, all-both P xs ys left.1 right)
 
--- the readings of what stands behind the selectors
+-- the readings of what follows the selectors
 pub drop-read : {X Y : Type 0} (f : X → Y) (xs ys : List X) (n : ℕ) → length xs ≡ n
     → drop n (map f (xs ++ ys)) ≡ map f ys
 drop-read f xs ys n many =

@@ -137,7 +137,7 @@ module _ (first new : List Node) (words : List WordOp) (entries : List (List (Li
         ∙ (λ i. cond (says.guard i) (cond (sym (agrees p) i) true
         ((says.keep ∙ sym (keep-is (is_nonzero (value_at vs p.keep)) (map (value_at vs) p.values))) i)) true)
 
-    -- each execution stays where, and only where, the choices at those that may not be relaxed are Keep
+    -- each execution stays if, and only if, the choices at those that may not be relaxed are Keep
     pub kept-is : (ps : List PlaceWords) (bs : List PlaceBits)
         → ArePlaces first words entries selectors new ps (map group ps) bs → list_all (is_place n) ps ≡ true
         → are_needed needed (roots_along ps (map group ps)) ≡ true

@@ -108,7 +108,7 @@ entry-typed x vs ls (Zeros count) fits shown = absurd (cc)
 entry-typed x vs ls (Fill array words when) fits shown = absurd (cc)
 entry-typed x vs ls (Write array index value when) fits shown = absurd (cc)
 
--- the entry at a place fits behind those before it
+-- the entry at a place fits after those before it
 FitsThere : List WordOp → ℕ → Type 0
 FitsThere ops w = (ls : List ℕ) × (fits_behind ls (get_or ops w Free) ≡ true)
 

@@ -11,8 +11,8 @@ use Rattle.ba_nodes.specs.Gates.{Extends}
 use Rattle.ba_wordlist.specs.declared.words.WordList.{WordList}
 
 -- The entries that are needed have bits over the first nodes. Over all nodes there are the executions as
--- bits, and bits that are true where, and only where, the requirements are met and each execution is as it has
--- to be.
+-- bits. Further bits are true if, and only if, the requirements are met and each execution is as it has to
+-- be.
 pub record IsBuilt (list : WordList) (groups : List (Option ℕ)) (selectors : List Bit)
     (old new : List Node) (required : List Bit) (places : List PlaceBits) : Type 0 where
   pub first : List Node

@@ -15,8 +15,8 @@ use Rattle.ba_wordlist.specs.Meaning as words
 use Rattle.ba_wordlist.specs.Meaning.{holds, visits_of}
 use Rattle.ba_wordlist.specs.declared.words.WordList.{WordList}
 
--- A good run in which these executions may be relaxed: an assignment of the list's words under which all
--- requirements are met and each other execution is kept as written.
+-- A good run in which these executions may be relaxed. It is an assignment of the list's words that meets all
+-- requirements and keeps each other execution as written.
 pub record GoodRun (relaxes : Relaxes) (list : WordList) : Type 0 where
   pub by : words.Assignment
   pub met : holds by list ≡ true
@@ -39,6 +39,7 @@ pub record HasChoices (relaxes : Relaxes) (list : WordList) (encoded : Encoded) 
   pub run : GoodRun relaxes list
   pub choices : choices_read v encoded.places ≡ chosen relaxes (visits_of run.by list)
 
+-- a group without its selector
 abbrev pub without_selector : Group → Numbered
 without_selector group = numbered group.number group.statement group.weight
 
@@ -50,8 +51,8 @@ pub record AreSelectors (formula : Cnf) (groups : List Group) : Type 0 where
   pub apart : (a b : Group) → Contains groups a → Contains groups b
       → a.selector.variable ≡ b.selector.variable → a.number ≡ b.number
 
--- The formula has a model under which exactly the groups of a set are given up where, and only where, some
--- good run relaxes those of the set alone; and the choices of such a run are read from each such model.
+-- For each set, the formula has a model that gives up exactly its groups if, and only if, some good run
+-- relaxes these alone. The choices of such a run are read from each such model.
 pub record IsEncodingOf (list : WordList) (grouping : Grouping) (encoded : Encoded) : Type 0 where
   pub groups_are : map without_selector encoded.groups ≡ groups_of grouping
   pub selectors : AreSelectors encoded.formula encoded.groups

@@ -1,4 +1,4 @@
--- Groups of executions that are relaxed together, and what is relaxed where some of them are.
+-- Groups of executions that are relaxed together, and what is relaxed if some of them are.
 
 use Rattle.std.specs.Prelude.{ℕ, ◌+◌, ◌==◌, Bool, true, false, not, ◌&&◌, ◌||◌, Option, None, Some, is_some, List, [], ◌∷◌, position, map}
 use Rattle.std.specs.List.{list_any}
@@ -12,9 +12,11 @@ use Rattle.ba_tree.specs.Least.{stmt_of, weight_at}
 use Rattle.ba_tree.specs.declared.run.Place.{Place}
 use Rattle.ba_wordlist.specs.declared.words.PlaceWords.{PlaceWords}
 
+-- a group of this number, statement and weight
 abbrev pub numbered : ℕ → StmtId → ℕ → Numbered
 numbered number stmt weight = record { number = number; statement = stmt; weight = weight }
 
+-- the groups with that of a statement before them, if it has a weight
 abbrev pub with_weight : ℕ → Option ℕ → List Numbered → List Numbered
 with_weight number None groups = groups
 with_weight number (Some weight) groups = numbered number (stmt_of number) weight ∷ groups
@@ -43,7 +45,7 @@ is_in_set set number [] path stmt = false
 is_in_set set number (place ∷ places) path stmt =
     (set number && is_there path stmt place) || is_in_set set (number + 1) places path stmt
 
--- what may be relaxed where the groups of a set are: an execution that is in no group never is
+-- what may be relaxed if the groups of a set are: an execution that is in no group never is
 abbrev pub relaxes_in : Grouping → (ℕ → Bool) → Relaxes
 relaxes_in (ByStatement weights) set path stmt = set stmt.0 && is_some (weight_at weights.of stmt.0)
 relaxes_in (ByPlace places) set path stmt = is_in_set set 1 places path stmt
@@ -58,6 +60,7 @@ group_at (ByStatement weights) groups place =
     position (λ (group : Numbered). group.statement.0 == place.stmt.0) groups
 group_at (ByPlace places) groups place = position (λ other. is_place other place) places
 
+-- the index of the group of an execution, None if it is in no group
 abbrev pub group_of : Grouping → List Numbered → PlaceWords → Option ℕ
 group_of grouping groups p = group_at grouping groups p.place
 
@@ -65,11 +68,12 @@ group_of grouping groups p = group_at grouping groups p.place
 abbrev pub groups_along : Grouping → List Numbered → List PlaceWords → List (Option ℕ)
 groups_along grouping groups places = map (group_of grouping groups) places
 
+-- no place comes twice
 abbrev pub are_different : List Place → Bool
 are_different [] = true
 are_different (place ∷ places) = not (list_any (is_place place) places) && are_different places
 
--- no execution stands in two groups
+-- no execution is in two groups
 abbrev pub are_apart : Grouping → Bool
 are_apart (ByStatement weights) = true
 are_apart (ByPlace places) = are_different places

@@ -10,7 +10,7 @@ use Rattle.ba_nodes.specs.declared.Bit.{Bit}
 use Rattle.ba_nodes.specs.declared.Node.{Node}
 use Rattle.ba_nodes.specs.Gates.{HasValue}
 
--- a bit whose value an assignment gives at a number of its own
+-- a free bit, whose value an assignment gives
 pub record IsFree (nodes : List Node) (bit : Bit) : Type 0 where
   pub counted : 0 < bit.index
   pub plain : bit.negated ≡ false
@@ -26,6 +26,7 @@ abbrev pub literal_of : Reading → Literal
 literal_of (Variable lit) = lit
 literal_of (Constant value) = record { variable = 1; negated = false }
 
+-- a group with its selector
 abbrev pub with_selector : Numbered → Reading → Group
 with_selector group reading = record {
   number = group.number;

@@ -1,4 +1,4 @@
-//! The choices of a run, as a model of its formula has them.
+//! The choices of a run, from a model of its formula.
 
 ghost use Rattle.std.specs.Prelude.{◌≡◌, ◌≤◌, ◌++◌, true, length, map, IfOk, OnOk};
 ghost use Rattle.std.specs.List.{list_all};
@@ -14,11 +14,11 @@ use ba_lits::Model;
 use ba_numbers::numbers::{CType, convert};
 use std::alloc::{AllocError, Global};
 
-/// The choices at the executions that take place and stand in a group whose selector is false in a model, in their order. Each value
-/// is in the range of `I32` or of `U32`. Where the model satisfies the formula of an encoding that [`encode`](crate::encode) made,
-/// they are those of a good run in which these groups may be relaxed.
+/// The choices at the executions that take place and whose group has a false selector in a model, in order.
+/// Each value is in the range of `I32` or of `U32`. If the model satisfies the formula that
+/// [`encode`](crate::encode) made, they are those of a good run in which these groups may be relaxed.
 ///
-/// The one error is want of memory.
+/// The only error is out of memory.
 pub fn choices_of(
     alloc: Global,
     encoded: &Encoded,

@@ -9,8 +9,8 @@ use ba_lits::{Formula, Lit};
 use ba_numbers::ids::StmtId;
 use std::alloc::Global;
 
-/// A group: its written number, the statement that it belongs to, its weight, and its selector, which in an encoding that
-/// [`encode`](crate::encode) made is true where the group runs as written.
+/// A group: its number, its statement, its weight, and its selector. In an encoding that
+/// [`encode`](crate::encode) made, the selector is true if the group runs as written.
 #[derive(Clone, Copy)]
 pub struct Group {
     pub number: u32,
@@ -19,8 +19,8 @@ pub struct Group {
     pub selector: Lit,
 }
 
-/// How the choice of an execution that stands in a group is read from a model: the group's selector, whether it takes
-/// place, whether it is as written, and else the values.
+/// How the choice of an execution in a group is read from a model. It has the group's selector, whether the
+/// execution takes place, whether it is as written, and its values.
 pub struct PlaceReading {
     pub selector: Reading,
     pub guard: Reading,
@@ -39,16 +39,16 @@ impl Drop for PlaceReading {
     }
 }
 
-/// How a value is read from a model: its 32 bits, the lowest first, and whether these are those of a number of `I32`
-/// or of `U32`.
+/// How a value is read from a model: its 32 bits, the lowest first, and whether its type is `I32` or `U32`.
 #[derive(Drop)]
 pub struct ValueReading {
     pub signed: bool,
     pub bits: Items<Reading>,
 }
 
-/// A formula with its groups, and the readings of the executions that stand in groups, all by variables of the formula. There are
-/// fewer than 2^32 groups. Where [`encode`](crate::encode) made it, its models are the good runs in which groups may be relaxed.
+/// A formula with its groups, and the readings of the executions in groups, all by variables of the formula.
+/// There are fewer than 2^32 groups. If [`encode`](crate::encode) made it, its models are the good runs in
+/// which groups may be relaxed.
 pub struct Encoded {
     pub(crate) formula: Formula,
     pub(crate) groups: Items<Group>,
@@ -68,7 +68,7 @@ impl Drop for Encoded {
 }
 
 impl Encoded {
-    /// A formula with any groups, where no execution stands in one: its runs have no choices.
+    /// A formula with any groups and without executions: its runs have no choices.
     pub fn without_places(alloc: Global, formula: Formula, groups: Items<Group>) -> Encoded
         requires { length groups < 2 ^ 32 }
         ensures formula { result.formula ≡ formula }
@@ -89,14 +89,15 @@ impl Encoded {
         &self.formula
     }
 
-    /// How many groups there are. They count from 0 here.
+    /// How many groups there are. As arguments below they count from 0.
     pub fn groups(&self) -> u32
         ensures { result ≡ length self.now.groups }
     {
         self.groups.len() as u32
     }
 
-    /// The selector of a group: in an encoding that [`encode`](crate::encode) made it is true where the group runs as written.
+    /// The selector of a group. In an encoding that [`encode`](crate::encode) made it is true if the group
+    /// runs as written.
     pub fn selector(&self, group: u32) -> Lit
         requires { group < length self.now.groups }
         ensures { IfSome (slice_get self.now.groups group) (λ g. result ≡ g.selector) }
@@ -120,7 +121,7 @@ impl Encoded {
         self.groups.as_slice()[group as usize].statement
     }
 
-    /// The written number of a group, from 1 on: that of its statement, or its position in the list of places.
+    /// The number of a group, from 1 on: that of its statement, or its position in the list of places.
     pub fn number(&self, group: u32) -> u32
         requires { group < length self.now.groups }
         ensures { IfSome (slice_get self.now.groups group) (λ g. result ≡ g.number) }

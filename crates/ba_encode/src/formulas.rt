@@ -19,10 +19,10 @@ use ba_nodes::{Bit, Nodes};
 use ba_wordlist::words::WordList;
 use std::alloc::{AllocError, Global};
 
-/// The formula of a word list, whose models are the good runs in which groups may be relaxed. An execution that stands
-/// in no group never is.
+/// The formula of a word list. Its models are the good runs in which groups may be relaxed. An execution in
+/// no group never is.
 ///
-/// The one error is want of memory.
+/// The only error is out of memory.
 pub fn encode(alloc: Global, words: &WordList, grouping: &Grouping) -> Result<Encoded, AllocError>
     requires { are_apart grouping.now ≡ true }
     ensures { IfOk result (IsEncodingOf words.now grouping.now) }
@@ -31,7 +31,7 @@ pub fn encode(alloc: Global, words: &WordList, grouping: &Grouping) -> Result<En
     encode_by(alloc, &mut nodes, words, grouping)
 }
 
-/// The formula of a word list, made by way of gates that are added to these nodes.
+/// The formula of a word list, by gates that are added to these nodes.
 fn encode_by(
     alloc: Global,
     nodes: &mut Nodes,
@@ -60,7 +60,7 @@ fn encode_by(
     })
 }
 
-/// What a formula is made from: the bits that have to be true, and the executions.
+/// The parts of a formula: the bits that have to be true, and the executions.
 struct Built {
     required: Vec<Bit>,
     places: Vec<PlaceBits>,

@@ -10,14 +10,15 @@ use ba_numbers::ids::StmtId;
 use ba_tree::run::{Place, Step, Weights};
 use std::alloc::{AllocError, Global};
 
-/// What is relaxed together: all executions of a statement that has a weight, or a single execution.
+/// What is relaxed together: all executions of a statement that has a weight, or each single execution by
+/// itself.
 #[derive(Drop)]
 pub enum Grouping {
     ByStatement(Weights),
     ByPlace(Items<Place>),
 }
 
-/// A group without its selector: its written number, from 1 on, the statement that it belongs to, and its weight.
+/// A group without its selector: its number, from 1 on, its statement, and its weight.
 #[derive(Clone, Copy)]
 pub struct Numbered {
     pub number: u32,
@@ -25,10 +26,10 @@ pub struct Numbered {
     pub weight: u32,
 }
 
-/// The groups in the order of their numbers: the statements that have a weight, under their own numbers, or the
-/// places, which count from 1 and weigh 1 each.
+/// The groups in the order of their numbers. Statements with a weight have their own numbers. Places count
+/// from 1 and weigh 1 each.
 ///
-/// The one error is want of memory.
+/// The only error is out of memory.
 pub(crate) fn groups_of(alloc: Global, grouping: &Grouping) -> Result<Vec<Numbered>, AllocError>
     ensures groups { IfOk result (λ groups. groups.items ≡ groups_of grouping.now) }
     ensures few { IfOk result (λ groups. length groups.items < 2 ^ 32) }
@@ -74,7 +75,7 @@ fn place_groups(alloc: Global, places: &[Place]) -> Result<Vec<Numbered>, AllocE
     Ok(groups)
 }
 
-/// The number that counts from 1, where there is one.
+/// The index as a number counted from 1, if it fits 32 bits.
 fn next_number(index: usize) -> Result<u32, AllocError>
     ensures number { IfOk result (λ number. number ≡ index + 1) }
     ensures few { IfOk result (λ number. number < 2 ^ 32) }
@@ -85,7 +86,7 @@ fn next_number(index: usize) -> Result<u32, AllocError>
     Ok(index as u32 + 1)
 }
 
-/// The group of an execution, by its position among the groups, if it stands in one.
+/// The group of an execution, by its position among the groups, if it has one.
 pub(crate) fn group_at(grouping: &Grouping, groups: &[Numbered], place: &Place) -> Option<usize>
     ensures { result ≡ group_at grouping.now groups.now place.now }
 {

@@ -1,8 +1,9 @@
-//! From word lists to formulas: their models are the runs in which some groups of statements or places may be relaxed.
+//! The partial weighted MaxSAT encoding: from a word list with groups of executions to clauses with
+//! selectors.
 //!
-//! Each group has a selector, a variable that is true where the group runs as written. What the formula says is that
-//! all requirements of the list are met, and that an execution that takes place and isn't kept stands in a group whose
-//! selector is false. The choices of such a run are read from a model.
+//! Each group has a selector, a variable that is true if the group runs as written. The formula says that all
+//! requirements of the list are met. It also says that an execution which takes place and isn't kept is in a
+//! group with a false selector. The choices of such a run are read from a model.
 #![tactic(auto)]
 
 mod choices;

@@ -14,14 +14,14 @@ use ba_wordlist::words::{PlaceWords, WordList, WordOp};
 use ba_words::{Word, nonzero};
 use std::alloc::{AllocError, Global};
 
-/// A value as bits: the 32 of its word, the lowest first, and whether they are those of a number of `I32` or of `U32`.
+/// A value as bits: the 32 bits of its word, the lowest first, and whether its type is `I32` or `U32`.
 #[derive(Drop)]
 pub(crate) struct ValueBits {
     pub(crate) signed: bool,
     pub(crate) bits: Items<Bit>,
 }
 
-/// An execution as bits: the selector of its group, if it stands in one, whether it takes place, whether it is kept as
+/// An execution as bits: the selector of its group, if any, whether it takes place, whether it is kept as
 /// written, and its values.
 #[derive(Drop)]
 pub(crate) struct PlaceBits {

@@ -13,8 +13,8 @@ use ba_items::Items;
 use ba_nodes::Bit;
 use std::alloc::{AllocError, Global};
 
-/// The bits whose values are read from models: the selectors, and then for each execution in a group its selector,
-/// whether it takes place, whether it is kept, and the bits of its values.
+/// The bits that are read from models. First come the selectors. For each execution in a group follow its
+/// selector, whether it takes place, whether it is kept, and the bits of its values.
 pub(crate) fn bits_read(
     alloc: Global,
     selectors: &[Bit],
@@ -30,7 +30,7 @@ pub(crate) fn bits_read(
     Ok(read)
 }
 
-/// Adds the bits of an execution, if it stands in a group.
+/// Adds the bits of an execution, if it is in a group.
 fn add_place(read: &mut Vec<Bit>, place: &PlaceBits) -> Result<(), AllocError>
     ensures { OnOk result (read.new.items ≡ read.old.items ++ bits_of place.now) }
 {
@@ -53,7 +53,7 @@ fn add_values(read: &mut Vec<Bit>, values: &[ValueBits]) -> Result<(), AllocErro
     Ok(())
 }
 
-/// The readings of the executions that stand in groups, by the readings of their bits.
+/// The readings of the executions that are in groups, by the readings of their bits.
 pub(crate) fn place_readings(
     alloc: Global,
     places: &[PlaceBits],
@@ -75,7 +75,7 @@ pub(crate) fn place_readings(
     Ok(read)
 }
 
-/// The readings of the bits of an execution, which come first, and those behind them.
+/// The readings of the bits of an execution, which come first, and those after them.
 fn split_reading<'a>(place: &PlaceBits, readings: &'a [Reading]) -> (&'a [Reading], &'a [Reading])
     requires many { length (bits_of place.now) ≤ length readings.now }
     requires long { are_long place.now.values ≡ true }
@@ -89,7 +89,7 @@ fn split_reading<'a>(place: &PlaceBits, readings: &'a [Reading]) -> (&'a [Readin
     readings.split_at(size)
 }
 
-/// Adds the reading of an execution, if it stands in a group.
+/// Adds the reading of an execution, if it is in a group.
 fn add_reading(
     alloc: Global,
     place: &PlaceBits,

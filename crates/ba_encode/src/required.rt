@@ -11,7 +11,7 @@ use ba_bits::Cells;
 use ba_nodes::{Bit, Nodes};
 use std::alloc::{AllocError, Global};
 
-/// That each of these words is other than 0.
+/// Bits that say: each of these words is other than 0.
 pub(crate) fn met(
     alloc: Global,
     nodes: &mut Nodes,
@@ -31,7 +31,8 @@ pub(crate) fn met(
     Ok(bits)
 }
 
-/// Adds that each execution is kept as written, unless it doesn't take place, or its group has a false selector.
+/// Adds bits that say of each execution: it is kept as written, or doesn't take place, or its group has a
+/// false selector.
 pub(crate) fn add_kept(
     nodes: &mut Nodes,
     places: &[PlaceBits],
@@ -48,7 +49,8 @@ pub(crate) fn add_kept(
     Ok(())
 }
 
-/// That an execution is kept as written, unless it doesn't take place, or its group has a false selector.
+/// A bit that says: the execution is kept as written, or doesn't take place, or its group has a false
+/// selector.
 fn kept(nodes: &mut Nodes, place: &PlaceBits) -> Result<Bit, AllocError>
     requires { IsPlaceOf nodes.old place.now }
     ensures bit { IfOk result (TellsStay nodes.old place.now nodes.new) }

@@ -1,4 +1,4 @@
-//! What of a word list a formula speaks of.
+//! The entries of a word list that a formula needs.
 
 ghost use Rattle.std.specs.Prelude.{◌≡◌, ◌++◌, length, IfOk, OnOk};
 ghost use Rattle.ba_encode.specs.Groups.{groups_along};
@@ -24,8 +24,8 @@ pub(crate) fn groups_of_places(
     Ok(found)
 }
 
-/// The words that a formula speaks of: those of requirements, guards and keep words, and of the values of executions
-/// that stand in groups.
+/// The words that a formula needs: those of requirements, guards and keep flags, and of the values of
+/// executions in groups.
 pub(crate) fn roots_of(
     alloc: Global,
     list: &WordList,
@@ -43,7 +43,7 @@ pub(crate) fn roots_of(
     Ok(roots)
 }
 
-/// Adds the words of an execution: those of its values too, if it stands in a group.
+/// Adds the words of an execution; those of its values too, if it is in a group.
 fn add_roots(
     roots: &mut Vec<u32>,
     place: &PlaceWords,

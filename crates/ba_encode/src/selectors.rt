@@ -12,7 +12,7 @@ use ba_lits::Lit;
 use ba_nodes::{Bit, Nodes};
 use std::alloc::{AllocError, Global};
 
-/// So many new free bits.
+/// `count` new free bits.
 pub(crate) fn free_bits(
     alloc: Global,
     nodes: &mut Nodes,

@@ -7,11 +7,11 @@ use crate::encoded::Encoded;
 use ba_lits::Lit;
 use std::alloc::{AllocError, Global};
 
-/// The selectors of groups with their weights. Where the written numbers of the groups ascend, as in an encoding that
-/// [`encode`](crate::encode) made, entry n - 1 is that of the group with the written number n, and an entry of weight 0 stands where
-/// there is none.
+/// The selectors of groups with their weights, as soft literals. If the numbers of the groups ascend, as in
+/// an encoding that [`encode`](crate::encode) made, entry n - 1 is that of the group of number n. An entry of
+/// weight 0 fills each gap.
 ///
-/// The one error is want of memory.
+/// The only error is out of memory.
 pub fn softs_of(alloc: Global, encoded: &Encoded) -> Result<Vec<(Lit, u32)>, AllocError>
     ensures { IfOk result (λ softs. softs.items ≡ softs_of encoded.now.groups) }
 {
@@ -26,9 +26,9 @@ pub fn softs_of(alloc: Global, encoded: &Encoded) -> Result<Vec<(Lit, u32)>, All
     Ok(softs)
 }
 
-/// Adds so many entries that stand for no group.
+/// Adds `count` entries of weight 0, for no group.
 ///
-/// The one error is want of memory.
+/// The only error is out of memory.
 fn add_gap(softs: &mut Vec<(Lit, u32)>, lit: Lit, count: u64) -> Result<(), AllocError>
     ensures { OnOk result (softs.new.items ≡ softs.old.items ++ replicate count (lit, 0)) }
 {

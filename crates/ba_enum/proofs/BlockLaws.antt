@@ -24,7 +24,7 @@ use Rattle.ba_steps.specs.declared.step.StepError.TheVariants.{AfterEnd, Memory,
 use Rattle.ba_checker.specs.Blocks.{lacks_group, is_among, set_weight}
 use Rattle.ba_checker.specs.Puts.{Checking}
 use Rattle.ba_choices.specs.Judges.{Judge}
-use Rattle.ba_checker.specs.Judging.{error_if, error_of, after}
+use Rattle.ba_checker.specs.StepRules.{error_if, error_of, after}
 use Rattle.ba_checker.specs.States.{State}
 
 pub read_same : (encoded : Encoded) (values : List Bool) (groups : List ℕ) (run : List Choice)

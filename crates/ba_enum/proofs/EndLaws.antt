@@ -1,4 +1,4 @@
--- Each End step is allowed where the search ends, and says what was found.
+-- Each End step is allowed if the search ends, and says what was found.
 
 use Rattle.std.proofs.Common.{◌≡◌, ℕ, suc, ◌+◌, ◌-◌, ◌^◌, ◌<◌, Bool, true, false, not, ltb, eqb, None, List, [], ◌∷◌, length, refl, sym, ap, ◌∙◌, arith}
 use Rattle.std.proofs.lemmas.Bool.{eq-eqb, le-ltb}
@@ -20,7 +20,7 @@ use Rattle.ba_steps.specs.declared.step.CertStep.TheVariants.{EndLocated, EndNoR
 use Rattle.ba_steps.specs.declared.step.StepError.TheVariants.{AfterEnd, Memory, BadVariable, NotSofts, WrongCount}
 use Rattle.ba_checker.specs.Puts.{Checking}
 use Rattle.ba_choices.specs.Judges.{Judge}
-use Rattle.ba_checker.specs.Judging.{error_if, lacks_variable, is_spent, lacks_soft, error_of_replay, are_too_many, error_of, after}
+use Rattle.ba_checker.specs.StepRules.{error_if, lacks_variable, is_spent, lacks_soft, error_of_replay, are_too_many, error_of, after}
 use Rattle.ba_checker.specs.Splits.{is_soft}
 use Rattle.ba_checker.specs.States.{State, clause_at}
 use Rattle.ba_tree.specs.Least.{AreInOrder}

@@ -8,7 +8,7 @@ use Rattle.std.specs.Cmp.Lexicographic.{pointwise, bytes_decides}
 use Rattle.ba_lits.specs.Literals.{Literal}
 use Rattle.ba_lits.specs.Satisfaction.{Assignment, Soft, lit_true, any_true, all_true}
 use Rattle.ba_steps.specs.Steps.{AreAbove}
-use Rattle.ba_checker.specs.Blocks.{entry_weight, weight_at, lacks_group, is_among, placed, with_selector, block_clause, block_clauses}
+use Rattle.ba_checker.specs.Blocks.{entry_weight, weight_at, lacks_group, is_among, inserted, with_selector, block_clause, block_clauses}
 use Rattle.ba_checker.specs.Facts.{AreAmong}
 use Rattle.ba_checker.specs.States.{present}
 use Rattle.ba_derivations.specs.Encodings.{is_false_group, with_if, false_groups_from, false_groups}
@@ -59,17 +59,18 @@ pub groups_exist : (v : Assignment) (softs : List Soft) → lacks_group softs (f
 groups_exist v softs = exist_from v softs 0 softs (from_start softs)
 
 -- THEIR CLAUSE IS FALSE
-placed_false : (v : Assignment) (l : Literal) (lits : List Literal) → lit_true v l ≡ false →
-    any_true v lits ≡ false → any_true v (placed l lits) ≡ false
-placed_false v l [] first rest = or_from (lit_true v l) false first refl
-placed_false v l (m ∷ ms) first rest = by_case (λ h. placed_false v l ms first h) (ltb l.variable m.variable)
+inserted_false : (v : Assignment) (l : Literal) (lits : List Literal) → lit_true v l ≡ false →
+    any_true v lits ≡ false → any_true v (inserted l lits) ≡ false
+inserted_false v l [] first rest = or_from (lit_true v l) false first refl
+inserted_false v l (m ∷ ms) first rest = by_case (λ h. inserted_false v l ms first h) (ltb l.variable
+    m.variable)
   where
-    by_case : (any_true v ms ≡ false → any_true v (placed l ms) ≡ false) → (t : Bool) →
-        any_true v (cond t (l ∷ m ∷ ms) (m ∷ placed l ms)) ≡ false
+    by_case : (any_true v ms ≡ false → any_true v (inserted l ms) ≡ false) → (t : Bool) →
+        any_true v (cond t (l ∷ m ∷ ms) (m ∷ inserted l ms)) ≡ false
     by_case later true = or_from (lit_true v l) (any_true v (m ∷ ms)) first rest
     by_case later false =
         let both = or_parts (lit_true v m) (any_true v ms) rest in
-        or_from (lit_true v m) (any_true v (placed l ms)) both.0 (later both.1)
+        or_from (lit_true v m) (any_true v (inserted l ms)) both.0 (later both.1)
 
 clause_from : (v : Assignment) (softs : List Soft) (k : ℕ) (ss : List Soft) → AreFrom softs k ss →
     any_true v (block_clause softs (false_groups_from k v ss)) ≡ false
@@ -83,7 +84,7 @@ clause_from v softs k (s ∷ ss) from =
     by_case true is rest =
         ap (λ o. any_true v (with_selector o (block_clause softs (false_groups_from (suc k) v ss))))
         (entry_here softs k s ss from)
-        ∙ placed_false v s.0 (block_clause softs (false_groups_from (suc k) v ss))
+        ∙ inserted_false v s.0 (block_clause softs (false_groups_from (suc k) v ss))
         (not-true (lit_true v s.0) ((and_parts (ltb 0 s.1) (not (lit_true v s.0)) is).1)) rest
     by_case false is rest = rest
 
@@ -91,7 +92,7 @@ clause_false : (v : Assignment) (softs : List Soft) →
     any_true v (block_clause softs (false_groups v softs)) ≡ false
 clause_false v softs = clause_from v softs 0 softs (from_start softs)
 
--- so where the clauses of other sets hold, it is none of them
+-- so if the clauses of other sets hold, it is none of them
 pub not_among : (v : Assignment) (softs : List Soft) (sets : List (List ℕ)) →
     all_true v (block_clauses softs sets) ≡ true → is_among sets (false_groups v softs) ≡ false
 not_among v softs [] holds = refl

@@ -11,7 +11,7 @@ use Rattle.ba_steps.specs.declared.step.CertStep.{CertStep}
 use Rattle.ba_steps.specs.declared.step.CertStep.TheVariants.{Learn, Core, Delete, Block, EndLocated, EndNoRepair, EndTooMany, EndSpent}
 use Rattle.ba_checker.specs.States.{State, first_state}
 use Rattle.ba_choices.specs.Judges.{Judge}
-use Rattle.ba_checker.specs.Judging.{error_of, after, after_all}
+use Rattle.ba_checker.specs.StepRules.{error_of, after, after_all}
 use Rattle.ba_checker.specs.Facts.{IsStart, Holds, splits_of}
 use Rattle.ba_checker.specs.Puts.{Checking, IsTakenOrAsleep, leaves_all, leaves_last}
 use Rattle.ba_checker.proofs.FactLaws.{after_append, allowed, facts_hold, next_allowed}

@@ -1,4 +1,4 @@
--- Sorted sets that differ stand in their order.
+-- Sorted sets that differ are in their order.
 
 use denote.Param.Members.{Called, Mut}
 use denote.Ref.{Bor}

@@ -1,4 +1,4 @@
--- What a search for all least sets comes to.
+-- What a search for all least sets finds.
 
 use Rattle.std.specs.Prelude.{◌≡◌, ◌≤◌, true, None, Some, List, length, All, Contains, ◌↔◌}
 use Rattle.ba_derivations.specs.Derivations.{Problem, Derives, start_of, verdict_of, blocked_by, sets_of}
@@ -14,7 +14,7 @@ use Rattle.ba_lits.specs.Satisfaction.{Assignment, all_true}
 use Rattle.ba_steps.specs.Sinks.{Logs, with_step}
 use Rattle.ba_steps.specs.Steps.{IsFormed}
 use Rattle.ba_steps.specs.declared.step.CertStep.{CertStep}
-use Rattle.ba_checker.specs.Judging.{error_of, after, after_all}
+use Rattle.ba_checker.specs.StepRules.{error_of, after, after_all}
 use Rattle.ba_checker.specs.Puts.{Checking, with_steps}
 use Rattle.ba_checker.specs.States.{State}
 use Rattle.ba_tree.specs.Least.{AreInOrder}
@@ -23,9 +23,9 @@ use Rattle.ba_tree.specs.Least.{AreInOrder}
 abbrev pub HaveSame : List FoundSet → List FoundSet → Type 0
 HaveSame xs ys = (b : FoundSet) → Contains xs b ↔ Contains ys b
 
--- STEPS SAY A VERDICT where they derive it. Its sets are those that they block, each with the run that it is
--- blocked with: in order, and no more than may be listed, where they are all; in the order in which they were
--- blocked, where they are too many. There is no repair only where the formula has no model.
+-- STEPS SAY A VERDICT if they derive it. Its sets are those that they block, each with its run. They are in
+-- order, and at most as many as may be listed, if they are all. They are in the order of blocking if they are
+-- too many. There is no repair only if the formula has no model.
 abbrev pub Says : Problem → List CertStep → Verdict → Type 0
 Says p steps (Located weight sets) =
     Derives p steps (derived.Located weight (sets_of (blocked_by steps)))
@@ -36,9 +36,9 @@ Says p steps (TooMany weight sets) = Derives p steps (derived.TooMany weight (se
     × (sets ≡ blocked_by steps)
 Says p steps Spent = Derives p steps derived.Spent
 
--- ALL LEAST SETS ARE SEARCHED FOR: steps were put that lead from the start of the problem to the checker's
--- state and say the verdict; each clause that they learn is new to propagation where it is learnt; and each
--- set that they block is that of a model of the formula.
+-- ALL LEAST SETS ARE SEARCHED FOR. Steps were put that lead from the start of the problem to the checker's
+-- state, and say the verdict. Each clause that they learn is new to propagation when it is learnt. Each set
+-- that they block is that of a model of the formula.
 pub record Enumerates (p : Problem) (old_logs : Logs) (verdict : Verdict) (new : State)
     (new_logs : Logs) : Type 0 where
   pub steps : List CertStep
@@ -59,8 +59,7 @@ Fits s found NoRepair said = said ≡ derived.NoRepair
 Fits s found (TooMany weight sets) said = (said ≡ derived.TooMany weight (sets_of sets)) × (sets ≡ found)
 Fits s found Spent said = said ≡ derived.Spent
 
--- an allowed End step was put, which has the form that its text asks for and says the verdict, where these
--- sets are blocked
+-- a formed and allowed End step was put, which says the verdict if these sets are blocked
 pub record EndsWith (found : List FoundSet) (old new : Checking) (verdict : Verdict) : Type 0 where
   pub last : CertStep
   pub said : derived.Verdict

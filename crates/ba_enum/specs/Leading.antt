@@ -21,7 +21,7 @@ use Rattle.ba_steps.specs.declared.step.CertStep.TheVariants.{Learn, Core, Delet
 use Rattle.ba_checker.specs.Blocks.{block_clauses}
 use Rattle.ba_checker.specs.Facts.{IsStart}
 use Rattle.ba_choices.specs.Judges.{Judge}
-use Rattle.ba_checker.specs.Judging.{after, after_all, after_block}
+use Rattle.ba_checker.specs.StepRules.{after, after_all, after_block}
 use Rattle.ba_checker.specs.Puts.{Checking, IsTakenOrAsleep, LeavesSteps, PutsSteps}
 use Rattle.ba_checker.specs.States.{State, clause_at, first_state, present}
 
@@ -36,13 +36,13 @@ IsNewIn s (EndNoRepair hints) = Unit {0}
 IsNewIn s EndTooMany = Unit {0}
 IsNewIn s EndSpent = Unit {0}
 
--- each learnt clause is new to propagation where it is learnt
+-- each learnt clause is new to propagation when it is learnt
 abbrev pub AreNew : State → List CertStep → Type 0
 AreNew s [] = Unit {0}
 AreNew s (step ∷ steps) = IsNewIn s step × AreNew (after s step) steps
 
--- each step is allowed in turn, has the form that its text asks for, and learns what is new; the blocked sets
--- are these, each that of a model of the formula
+-- Each step is allowed in turn, is formed, and learns only what is new. The blocked sets are these, each that
+-- of a model of the formula.
 pub record Leads (good : Judge) (formula : Cnf) (softs : List Soft) (old : State) (steps : List CertStep)
     (new : State)
     (found : List FoundSet) : Type 0 where
@@ -66,6 +66,7 @@ abbrev pub LeavesBetween : Judge → State → Logs → State → Logs → Type 
 LeavesBetween good old old_logs new new_logs =
     LeavesSteps (λ steps s. after_all good old steps ≡ Some s) old_logs new new_logs
 
+-- what calls leave between two states of a log of proofs
 abbrev pub Leaves : Checking → Checking → Type 0
 Leaves old new = LeavesBetween old.accepts old.checker old.told.logs new.checker new.told.logs
 
@@ -83,9 +84,11 @@ pub record IsReady (s : State) : Type 0 where
 
 -- OVER AN ENCODING, whose groups are the soft literals, and a log
 
+-- the steps so far have reached these sets
 abbrev pub HasReached : Encoded → Checking → List FoundSet → Type 0
 HasReached encoded log = IsReached log.accepts encoded.formula (softs_of encoded.groups) log.checker
 
+-- the values of a next model over the encoding
 abbrev pub IsNextModel : Encoded → Checking → List Bool → Type 0
 IsNextModel encoded log = IsNext encoded.formula (softs_of encoded.groups) log.checker
 
@@ -94,7 +97,7 @@ pub record MayPut (log : Checking) : Type 0 where
   pub ready : IsReady log.checker
   pub fresh : log.refusal ≡ None
 
--- a step was put that is allowed; or it was tried
+-- an allowed step was put, or it was tried
 pub record PutsAllowed (step : CertStep) (result : Result Unit SearchError) (old new : Checking) : Type 0
   where
     pub taken : OnOk result (new.checker ≡ after old.checker step)
@@ -132,7 +135,7 @@ pub record AddsSets (encoded : Encoded) (old new : Checking) (old_found new_foun
     pub puts : Puts encoded more old new
     pub found : new_found ≡ old_found ++ more
 
--- the sets that are blocked are these, and they differ
+-- the blocked sets are these, and they differ
 pub record HasFound (log : Checking) (found : List FoundSet) : Type 0 where
   pub sets : log.checker.sets ≡ sets_of found
   pub differ : IsDistinct (pointwise nat_eq) (sets_of found)

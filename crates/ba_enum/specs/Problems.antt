@@ -1,4 +1,4 @@
--- The problem that a formula with groups poses to the search, and what its models must give.
+-- The problem that a formula with groups poses to the search, and what its models have to give.
 
 use Rattle.std.specs.Prelude.{◌≡◌, ◌≢◌, ℕ, true, None, []}
 use Rattle.ba_derivations.specs.Derivations.{Problem}
@@ -13,7 +13,7 @@ use Rattle.ba_choices.specs.Judges.{Judge}
 use Rattle.ba_checker.specs.Puts.{Checking}
 use Rattle.ba_checker.specs.States.{State, clause_at, first_state}
 
--- the problem, with as many conflicts as the checker counts, and as many sets as it allows
+-- the problem, with the checker's limits on conflicts and on sets
 abbrev pub problem_in : Encoded → Judge → State → Problem
 problem_in encoded good s = record {
   formula = encoded.formula;
@@ -23,9 +23,9 @@ problem_in encoded good s = record {
   most_sets = s.most_sets;
 }
 
--- a search and a log at the start: the search has the live clauses of the checker, which is in the first
--- state, over the formula with the soft literals of its groups, lists at most so many sets, and has had no
--- step refused
+-- A SEARCH AND A LOG AT THE START. The search has the live clauses of the checker. The checker is in the
+-- first state, over the formula with the soft literals of its groups, with this limit on sets. No step was
+-- refused.
 pub record IsFresh {R : Type 0} (encoded : Encoded) (sets : ℕ) (search : Searching R) (log : Checking) :
     Type 0 where
   pub same : AreLive search.clauses (clause_at log.checker.clauses)
@@ -33,8 +33,8 @@ pub record IsFresh {R : Type 0} (encoded : Encoded) (sets : ℕ) (search : Searc
       log.checker.budget sets
   pub accepted : log.refusal ≡ None
 
--- for each model of the formula some selector is false, and the choices that are read from it are good for
--- the groups whose selectors are false
+-- Each model of the formula makes some selector false. The choices that are read from it are good for the
+-- groups whose selectors are false.
 pub record IsReadable (encoded : Encoded) (good : Judge) : Type 0 where
   pub some : (v : Assignment) → all_true v encoded.formula.clauses ≡ true →
       false_groups v (softs_of encoded.groups) ≢ []

@@ -36,26 +36,26 @@ IsEnd s found TooMany = length found ≡ s.most_sets + 1
 IsEnd s found (NoMore core) = IsLast s found core.lits core.hints core.back
 IsEnd s found Spent = s.conflicts ≡ s.budget
 
--- what the answer of a search comes to
+-- what the answer of a search means for the next turn
 abbrev pub next_of : Answer → Next
 next_of (answers.Model m) = nexts.Model m
 next_of (answers.Core core) = nexts.End (NoMore core)
 next_of answers.Spent = nexts.End Spent
 
--- what a turn comes to: a model of a further set, of which no more are found than may be listed, or the end
+-- What a turn gives: a model of a further set, if no more sets are found than may be listed; or the end.
 abbrev pub ComesTo : Encoded → Checking → List FoundSet → Next → Type 0
 ComesTo encoded log found (nexts.Model m) =
     IsNextModel encoded log m.values × (length found ≤ log.checker.most_sets)
 ComesTo encoded log found (nexts.End end) = IsEnd log.checker found end
 
--- a task over an encoding, which assumes these soft literals, and may list so many sets
+-- a task over an encoding, which assumes these soft literals and may list this many sets
 pub record IsTask (over : Encoded) (most : ℕ) (softs : List Soft) (task : Task) : Type 0 where
   pub encoded : task.encoded.now ≡ over
   pub assumptions : task.assumptions.items ≡ literals_of softs
   pub sets : task.sets ≡ most
 
--- a search stands between two turns of a task: it may go on, these sets were blocked, the present soft
--- literals are assumed, and no more sets are found than may be listed
+-- A search is between two turns of a task. It may go on, these sets were blocked, the present soft literals
+-- are assumed, and no more sets are found than may be listed.
 pub record Stands {R : Type 0} (task : Task) (found : List FoundSet) (search : Searching R) (log : Checking) :
     Type 0 where
   pub goes_on : MayGoOn search log

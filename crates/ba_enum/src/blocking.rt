@@ -23,7 +23,7 @@ use std::alloc::{AllocError, Global};
 
 /// Blocks the set of a model, with the run that is read from it, and adds it to those found.
 ///
-/// `SinkFailed` comes only where the sink's faults rose; `Memory` for want of memory.
+/// `SinkFailed` comes only if the sink's faults rose; `Memory` if memory runs out.
 pub fn block<L: ProofLog>(
     alloc: Global,
     task: &Task,
@@ -52,7 +52,7 @@ pub fn block<L: ProofLog>(
 
 /// The set of a model, with its run.
 ///
-/// The one error is want of memory.
+/// The only error is out of memory.
 fn found_set(alloc: Global, task: &Task, model: &Model) -> Result<FoundSet, AllocError>
     requires long { task.now.encoded.now.formula.variables ≤ length model.now.values }
     requires softs { AreAmong task.now.encoded.now.formula.variables
@@ -67,7 +67,7 @@ fn found_set(alloc: Global, task: &Task, model: &Model) -> Result<FoundSet, Allo
 
 /// The numbers of the groups whose selectors are false in a model, in ascending order.
 ///
-/// The one error is want of memory, which a number beyond those of groups counts as.
+/// The only error is out of memory, also for a number past 32 bits.
 fn false_groups(
     alloc: Global,
     softs: &[(Lit, u32)],
@@ -88,7 +88,7 @@ fn false_groups(
 
 /// The number of the group of an entry.
 ///
-/// The one error is that it is none.
+/// The only error is that it needs more than 32 bits.
 fn number_of(place: usize) -> Result<u32, AllocError>
     ensures { IfOk result (λ number. number ≡ place + 1) }
 {
@@ -98,7 +98,7 @@ fn number_of(place: usize) -> Result<u32, AllocError>
     Err(AllocError)
 }
 
-/// Whether an entry stands for a group whose selector is false in a model.
+/// Whether an entry is of a group whose selector is false in a model.
 fn is_false_group(model: &Model, soft: (Lit, u32)) -> bool
     requires { 0 < soft.1 → soft.0.variable ≤ length model.now.values }
     ensures { result ≡ is_false_group (assignment_of model.now.values) soft }

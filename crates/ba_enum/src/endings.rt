@@ -32,9 +32,9 @@ pub enum End {
     Spent,
 }
 
-/// Puts the End step, and gives the verdict that it says.
+/// Puts the End step, and gives its verdict.
 ///
-/// `SinkFailed` comes only where the sink's faults rose; `Memory` for want of memory.
+/// `SinkFailed` comes only if the sink's faults rose; `Memory` if memory runs out.
 pub fn finish<L: ProofLog>(
     end: End,
     found: Items<FoundSet>,
@@ -68,9 +68,9 @@ pub fn finish<L: ProofLog>(
     }
 }
 
-/// Puts the End step that no further set is of least weight, and gives the found ones in order.
+/// Puts the End step for `NoMore`, and gives the found sets in order.
 ///
-/// `SinkFailed` comes only where the sink's faults rose; `Memory` for want of memory.
+/// `SinkFailed` comes only if the sink's faults rose; `Memory` if memory runs out.
 fn locate<L: ProofLog>(
     weight: u64,
     core: Learnt,
@@ -95,9 +95,9 @@ fn locate<L: ProofLog>(
     Ok(Verdict::Located { weight, sets })
 }
 
-/// The sets in their order: the lexicographic one of their numbers.
+/// The sets in lexicographic order of their numbers.
 ///
-/// The one error is want of memory.
+/// The only error is out of memory.
 fn in_order(found: Items<FoundSet>) -> Result<Items<FoundSet>, AllocError>
     requires { IsDistinct (pointwise nat_eq) (sets_of found) }
     ensures same { IfOk result (λ sets. HaveSame sets found) }

@@ -23,14 +23,14 @@ use ba_lits::{Lit, Model};
 use ba_search::{Search, SearchError, SearchRules};
 use std::alloc::{AllocError, Global};
 
-/// All sets of models of least weight, each with a good run, where they are at most `sets`; else one more than that. The set
-/// of a model is that of the groups whose selectors are false, and its run is read from the model. Over a formula that encodes
-/// faithfully which runs are good these are the least sets. The End step of the verdict is put.
+/// All sets of models of least weight, each with a run, if they are at most `sets`; else one more than that.
+/// The set of a model has the groups whose selectors are false, and its run is read from the model. Over a
+/// faithful encoding these are the least sets, with good runs. The End step of the verdict is put.
 ///
 /// The checker is at its start, with the formula and the soft literals of its groups.
 ///
-/// `SinkFailed` comes only where the sink's faults rose, or the search answered it before; `Memory` for want of memory.
-/// Steps that were put before an error stay put.
+/// `SinkFailed` comes only if the sink's faults rose, or the search answered it before; `Memory` if memory
+/// runs out. Steps that were put before an error stay put.
 pub fn all_sets<L: ProofLog, R: SearchRules + Drop>(
     alloc: Global,
     encoded: &Encoded,
@@ -59,9 +59,9 @@ pub fn all_sets<L: ProofLog, R: SearchRules + Drop>(
     }
 }
 
-/// Blocks the set of a model of least cost and those of all further ones, and puts the End step.
+/// Blocks the sets of models of least cost, and puts the End step.
 ///
-/// `SinkFailed` comes only where the sink's faults rose; `Memory` for want of memory.
+/// `SinkFailed` comes only if the sink's faults rose; `Memory` if memory runs out.
 fn enumerate<L: ProofLog, R: SearchRules + Drop>(
     alloc: Global,
     task: &Task,
@@ -87,9 +87,9 @@ fn enumerate<L: ProofLog, R: SearchRules + Drop>(
     }
 }
 
-/// What is sought, where these are the present soft literals of the checker.
+/// The task for the present soft literals of the checker.
 ///
-/// The one error is want of memory.
+/// The only error is out of memory.
 fn task_of<'a>(
     alloc: Global,
     encoded: &'a Encoded,
@@ -108,7 +108,7 @@ fn task_of<'a>(
 
 /// The soft literals without their weights, in their order.
 ///
-/// The one error is want of memory.
+/// The only error is out of memory.
 fn literals_of(alloc: Global, softs: &[(Lit, u32)]) -> Result<Vec<Lit>, AllocError>
     ensures { IfOk result (λ lits. lits.items ≡ literals_of softs.now) }
 {

@@ -1,8 +1,9 @@
-//! All sets of groups of least weight that could repair a run.
+//! Enumeration of minimum-weight correction sets: all sets of soft literals of least weight whose falsity
+//! leaves a model.
 //!
-//! After the first model of least cost its set of groups is blocked by a clause, and the search goes on under the same
-//! assumptions: each further model that satisfies them is of the same cost, and its set is another one. Where none is left
-//! the last core shows that every further model costs more.
+//! After the first model of least cost a clause blocks its set, and the search goes on under the same
+//! assumptions. Each further model has the same cost and another set. If no model is left, the last core
+//! shows that all others cost more.
 #![tactic(auto)]
 
 mod blocking;

@@ -1,7 +1,7 @@
-//! Putting a step.
+//! Steps that are put.
 
 ghost use Rattle.std.specs.Prelude.{◌≡◌, None};
-ghost use Rattle.ba_checker.specs.Judging.{error_of};
+ghost use Rattle.ba_checker.specs.StepRules.{error_of};
 ghost use Rattle.ba_enum.specs.Leading.{PutsAllowed};
 ghost use Rattle.ba_steps.specs.Steps.{IsFormed};
 
@@ -11,7 +11,7 @@ use ba_steps::CertStep;
 
 /// Puts an allowed step.
 ///
-/// `SinkFailed` comes only where the sink's faults rose; `Memory` for want of memory.
+/// `SinkFailed` comes only if the sink's faults rose; `Memory` if memory runs out.
 pub fn put<L: ProofLog>(log: &mut L, step: &CertStep) -> Result<(), SearchError>
     requires formed { IsFormed step.now }
     requires allowed { error_of (L.log log.old).accepts (L.log log.old).checker step.now ≡ None }

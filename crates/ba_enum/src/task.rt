@@ -1,4 +1,4 @@
-//! What is sought.
+//! The task of an enumeration.
 
 ghost use Rattle.std.specs.Prelude.{◌≡◌};
 ghost use Rattle.ba_encode.specs.Softs.{softs_of};
@@ -6,8 +6,8 @@ ghost use Rattle.ba_encode.specs.Softs.{softs_of};
 use ba_encode::Encoded;
 use ba_lits::Lit;
 
-/// The sets of a formula whose groups have these soft literals are sought, among the models that satisfy the assumptions;
-/// so many may be listed.
+/// The sets of a formula whose groups have these soft literals are wanted, of the models that satisfy the
+/// assumptions. At most `most` may be listed.
 #[derive(Drop)]
 pub struct Task<'a> {
     pub encoded: &'a Encoded,

@@ -1,4 +1,5 @@
-//! One turn of the search for all least sets: a set is blocked, and the next model of the same cost is sought.
+//! One turn of the search for all least sets: a set is blocked, and the next model of the same cost is
+//! searched for.
 
 ghost use Rattle.std.specs.Prelude.{◌≡◌, IfOk, OnOk};
 ghost use Rattle.ba_enum.specs.Turning.{ComesTo, HasTurned, Stands, next_of};
@@ -16,7 +17,7 @@ use ba_lits::Model;
 use ba_search::{Answer, Search, SearchError, SearchRules};
 use std::alloc::Global;
 
-/// What a turn comes to: a model whose set is another one, or the end.
+/// What a turn gives: a model with another set, or the end.
 #[derive(Drop)]
 pub enum Next {
     Model(Model),
@@ -25,7 +26,7 @@ pub enum Next {
 
 /// Blocks the set of a model, and searches for a further model that satisfies the assumptions.
 ///
-/// `SinkFailed` comes only where the sink's faults rose; `Memory` for want of memory.
+/// `SinkFailed` comes only if the sink's faults rose; `Memory` if memory runs out.
 pub fn turn<L: ProofLog, R: SearchRules + Drop>(
     alloc: Global,
     task: &Task,
@@ -53,7 +54,7 @@ pub fn turn<L: ProofLog, R: SearchRules + Drop>(
     Ok(next_of(answer))
 }
 
-/// What the answer of a search comes to.
+/// What the answer of a search means for the next turn.
 fn next_of(answer: Answer) -> Next
     ensures { result ≡ next_of answer }
 {

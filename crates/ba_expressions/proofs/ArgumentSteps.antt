@@ -42,12 +42,12 @@ use Rattle.ba_tree.specs.declared.tree.Arg.TheFolds.{fold-roll-Arg}
 use Rattle.ba_tree.specs.declared.tree.Arg.TheOpen.{Arg-F}
 use Rattle.ba_tree.specs.declared.tree.Expr.{Expr}
 use Rattle.ba_typing.specs.Expressions.{Typed, TypedArg, Typing, typed_arg, typed_args, first_param, other_params, array_arg, named_array, expressions_of_args, trees_of_args}
-use Rattle.ba_expressions.specs.Judging.{AreArgs, after, calls_of_args, faults_of_arg, faults_of_args, greatest_height}
+use Rattle.ba_expressions.specs.Inferring.{AreArgs, after, calls_of_args, faults_of_arg, faults_of_args, greatest_height}
 use Rattle.ba_typing.specs.Names.{Scope}
 use Rattle.ba_tree.specs.Trees.{ArgTree, ExprTree, arg_tree_step, expr_tree_step, tree_of_arg, tree_of_expr}
 use Rattle.ba_tree.specs.Trees as tree
-use Rattle.ba_expressions.specs.declared.arguments.JudgedArgs.{JudgedArgs}
-use Rattle.ba_expressions.specs.declared.arguments.JudgedArg.{JudgedArg}
+use Rattle.ba_expressions.specs.declared.arguments.InferredArgs.{InferredArgs}
+use Rattle.ba_expressions.specs.declared.arguments.InferredArg.{InferredArg}
 use Rattle.ba_typing.specs.declared.fault.Fault.{Fault}
 use Rattle.ba_expressions.specs.declared.tally.Tally.{Tally}
 use Rattle.ba_expressions.specs.declared.uses.CallUse.{CallUse}
@@ -116,7 +116,7 @@ heights-push es e = ap greatest_height (map-append (λ (a : TypedArg). a.express
     ∙ ap greatest (map-append (λ (s : Typed). s.height) (expressions_of_args es) (e.expression ∷ []))
     ∙ greatest-push (map (λ (s : Typed). s.height) (expressions_of_args es)) e.expression.height
 
-pub args-push : (old new : JudgedArgs) (arg : Arg) (height : ℕ) (es : List TypedArg) (e : TypedArg)
+pub args-push : (old new : InferredArgs) (arg : Arg) (height : ℕ) (es : List TypedArg) (e : TypedArg)
     → new.given.items ≡ old.given.items ++ arg ∷ [] → new.tallest ≡ max old.tallest height
     → AreArgs old es → tree_of_arg arg ≡ e.given → height ≡ e.expression.height → AreArgs new (es ++ e ∷ [])
 args-push old new arg height es e items tallest are given same = record {
@@ -142,26 +142,26 @@ others-left [] (suc n) = refl
 others-left (p ∷ ps) zero = refl
 others-left (p ∷ ps) (suc n) = others-left ps n
 
-pub as-many : (j : JudgedArgs) (es : List TypedArg) → AreArgs j es → length j.given.items ≡ length es
+pub as-many : (j : InferredArgs) (es : List TypedArg) → AreArgs j es → length j.given.items ≡ length es
 as-many j es are = sym (length-map j.given.items tree_of_arg) ∙ ap length are.given
     ∙ length-map es (λ (a : TypedArg). a.given)
 
 -- THE WALK OVER ARGUMENTS: those that were looked at, and those that are left
 
 pub record Looked (scope : Scope) (usage : CallUse) (params : List ParamType) (left : List Typing)
-    (whole : List TypedArg) (args : JudgedArgs) (old new : Tally) (es : List TypedArg) : Type 0 where
+    (whole : List TypedArg) (args : InferredArgs) (old new : Tally) (es : List TypedArg) : Type 0 where
   pub are : AreArgs args es
   pub counted : new ≡ after old (calls_of_args es) (faults_of_args usage es)
   pub parts : es ++ typed_args scope new.calls (drop (length es) params) left ≡ whole
 
 pub looked-none : (scope : Scope) (usage : CallUse) (params : List ParamType) (left : List Typing) (args :
-    JudgedArgs)
+    InferredArgs)
     (t : Tally) → AreArgs args [] → Looked scope usage params left (typed_args scope t.calls params left)
     args t t []
 looked-none scope usage params left args t are = record { are = are; counted = nothing-more t; parts = refl }
 
 module _ (scope : Scope) (usage : CallUse) (params : List ParamType) (x : Typing) (left : List Typing)
-    (whole : List TypedArg) (args next : JudgedArgs) (arg : JudgedArg) (old mid new : Tally) (es : List
+    (whole : List TypedArg) (args next : InferredArgs) (arg : InferredArg) (old mid new : Tally) (es : List
     TypedArg)
     (looked : Looked scope usage params (x ∷ left) whole args old mid es) where
   abbrev this : TypedArg
@@ -215,7 +215,7 @@ module _ (scope : Scope) (usage : CallUse) (params : List ParamType) (x : Typing
       }
 
 pub looked-all : (scope : Scope) (usage : CallUse) (params : List ParamType) (whole : List TypedArg)
-    (args : JudgedArgs) (old new : Tally) (es : List TypedArg) → Looked scope usage params [] whole args old
+    (args : InferredArgs) (old new : Tally) (es : List TypedArg) → Looked scope usage params [] whole args old
     new es
     → AreArgs args whole × (new ≡ after old (calls_of_args whole) (faults_of_args usage whole))
 looked-all scope usage params whole args old new es looked =

@@ -11,7 +11,7 @@ use Rattle.std.proofs.lemmas.List.Elements.{
 }
 use Rattle.ba_typing.proofs.FaultOrder.{asym, connected, trans}
 use Rattle.ba_typing.specs.Faults.{comes_before, IsFirst}
-use Rattle.ba_expressions.specs.Judging.{sooner, least_with}
+use Rattle.ba_expressions.specs.Inferring.{sooner, least_with}
 use Rattle.ba_typing.specs.declared.fault.Fault.{Fault}
 
 never-itself : (f : Fault) → comes_before f f ≡ false

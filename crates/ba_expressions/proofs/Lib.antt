@@ -1,4 +1,4 @@
-pub mod Judgements
+pub mod Inferences
 pub mod Least
 pub mod Tallies
 pub mod ParsedForms

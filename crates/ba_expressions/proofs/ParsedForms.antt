@@ -22,7 +22,7 @@ use Rattle.ba_trees.specs.declared.tree.expressions.TypeName.{TypeName}
 use Rattle.ba_trees.specs.declared.tree.expressions.Unary.{Unary}
 use Rattle.ba_trees.specs.declared.tree.expressions.Unary as unary
 use Rattle.ba_typing.specs.Expressions.{Typed, OperandTyping, chain_of, whole_operand, tighter, from_looser, typed_token, Typing, Typings, BranchTypings, ChainTyping, typed_primary, typed_unary_expression, typed_arguments, typed_chain, typed_conditional, typed_next, typed_operand, primary_step, unary_step, arguments_step, branches_step, chain_step, conditional_step, expressions_step, next_expression_step, operand_step, typed_element, typed_called, typed_call, typed_unary, typed_cast, typed_binary, select_typing, after_chains, with_branches, typed_branches, typed_expressions, with_more_faults}
-use Rattle.ba_expressions.specs.Judging.{goes_on, is_left_to_right}
+use Rattle.ba_expressions.specs.Inferring.{goes_on, is_left_to_right}
 use Rattle.ba_typing.specs.declared.names.Operator.{Operator}
 use Rattle.ba_typing.specs.Faults.{tag_faults}
 use Rattle.ba_typing.specs.Names.{Scope, meaning_of, name_of, punct_of, tag_of, type_named, unary_operator, binary_operator, words_of}

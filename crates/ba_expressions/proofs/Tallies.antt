@@ -1,6 +1,6 @@
 -- What is counted one after the other.
 use Rattle.std.proofs.Common.{◌≡◌, ℕ, ◌+◌, List, ◌++◌, ◌∙◌, ap, arith}
-use Rattle.ba_expressions.specs.Judging.{after, least_with, with_faults}
+use Rattle.ba_expressions.specs.Inferring.{after, least_with, with_faults}
 use Rattle.ba_typing.specs.declared.fault.Fault.{Fault}
 use Rattle.ba_expressions.specs.declared.tally.Tally.{Tally}
 use Rattle.ba_expressions.proofs.Least.{least-append, least-swap}
@@ -12,7 +12,7 @@ pub faults-twice : (old mid new : Tally) (fs gs : List Fault) → mid ≡ with_f
 faults-twice old mid new fs gs is more = more ∙ ap (λ t. with_faults t gs) is
     ∙ ap (λ l. record old { least = l }) (least-append old.least fs gs)
 
--- faults that were found behind those that the definition has behind them
+-- faults that were found after those that the definition has after them
 pub faults-before : (old mid new : Tally) (c : ℕ) (fs gs : List Fault) → mid ≡ after old c fs
     → new ≡ with_faults mid gs → new ≡ after old c (gs ++ fs)
 faults-before old mid new c fs gs is more = more ∙ ap (λ t. with_faults t gs) is

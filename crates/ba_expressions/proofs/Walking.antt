@@ -10,11 +10,11 @@ use Rattle.ba_numbers.specs.declared.numbers.CType.{CType}
 use Rattle.ba_numbers.specs.declared.numbers.UnOp.{UnOp}
 use Rattle.ba_typing.specs.Expressions.{Typed, TypedCall, typed_unary, typed_cast, typed_binary, typed_select, typed_element, typed_constant_kind, typed_called, with_more_faults}
 use Rattle.ba_typing.specs.Faults.{fault_if, array_name_faults}
-use Rattle.ba_expressions.specs.Judging.{Gives, Judges, JudgesCall, Stands, after, with_faults}
+use Rattle.ba_expressions.specs.Inferring.{Gives, Infers, InfersCall, Stands, after, with_faults}
 use Rattle.ba_typing.specs.declared.fault.Cause.TheVariants.{WrongKind}
 use Rattle.ba_typing.specs.declared.fault.Fault.{Fault}
-use Rattle.ba_expressions.specs.declared.judged.Judged.{Judged}
-use Rattle.ba_expressions.specs.declared.judged.JudgedCall.{JudgedCall}
+use Rattle.ba_expressions.specs.declared.inferred.Inferred.{Inferred}
+use Rattle.ba_expressions.specs.declared.inferred.InferredCall.{InferredCall}
 use Rattle.ba_typing.specs.declared.names.Operator.{Operator}
 use Rattle.ba_typing.specs.declared.names.Operator.TheVariants.{Value, AndAlso, OrElse}
 use Rattle.ba_typing.specs.declared.meanings.Meaning.{Meaning}
@@ -46,22 +46,22 @@ pub cast-faults : (at : At) (t : Option CType) (s : Typed)
 cast-faults at None s = refl
 cast-faults at (Some t) s = append-nil s.faults
 
--- the fault of the tag stands before the cast's own
+-- the fault of the tag is before the cast's own
 pub tagged-faults : (at : At) (t : Option CType) (tag : List Fault) (s : Typed)
     → (with_more_faults tag (typed_cast at t s)).faults
     ≡ (tag ++ fault_if (not (is_some t)) WrongKind at) ++ s.faults
 tagged-faults at t tag s = ap (λ xs. tag ++ xs) (cast-faults at t s)
     ∙ sym (append_assoc tag (fault_if (not (is_some t)) WrongKind at) s.faults)
 
-tagged-cast : (at : At) (t : Option CType) (tag : List Fault) (a j : Judged)
-    → ((s : Typed) → Judges a s → Judges j (typed_cast at t s))
-    → (s : Typed) → Judges a s → Judges j (with_more_faults tag (typed_cast at t s))
+tagged-cast : (at : At) (t : Option CType) (tag : List Fault) (a j : Inferred)
+    → ((s : Typed) → Infers a s → Infers j (typed_cast at t s))
+    → (s : Typed) → Infers a s → Infers j (with_more_faults tag (typed_cast at t s))
 tagged-cast at t tag a j more s is = ap (with_more_faults tag) (more s is)
 
-pub tagged-casts : {E : Type 0} (at : At) (t : Option CType) (tag : List Fault) (a : Judged)
-    (r : Result Judged E)
-    → IfOk r (λ j. (s : Typed) → Judges a s → Judges j (typed_cast at t s))
-    → IfOk r (λ j. (s : Typed) → Judges a s → Judges j (with_more_faults tag (typed_cast at t s)))
+pub tagged-casts : {E : Type 0} (at : At) (t : Option CType) (tag : List Fault) (a : Inferred)
+    (r : Result Inferred E)
+    → IfOk r (λ j. (s : Typed) → Infers a s → Infers j (typed_cast at t s))
+    → IfOk r (λ j. (s : Typed) → Infers a s → Infers j (with_more_faults tag (typed_cast at t s)))
 tagged-casts at t tag a (Ok j) more = tagged-cast at t tag a j more
 tagged-casts at t tag a (Err e) more = more
 
@@ -82,19 +82,20 @@ binary-faults (Value op) s u = ap (λ xs. s.faults ++ xs) (append-nil u.faults)
 binary-faults AndAlso s u = ap (λ xs. s.faults ++ xs) (append-nil u.faults)
 binary-faults OrElse s u = ap (λ xs. s.faults ++ xs) (append-nil u.faults)
 
--- ONE OPERAND, behind faults that are found before it
+-- ONE OPERAND, after faults that are found before it
 
-last-of : {E : Type 0} (f : Typed → Typed) (a : Judged) (s : Typed) (old new : Tally) (r : Result Judged E)
-    → Judges a s → new ≡ after old (f s).calls (f s).faults
-    → IfOk r (λ j. (s : Typed) → Judges a s → Judges j (f s)) → Gives (f s) old new r
-last-of f a s old new (Ok j) judges is more = (more s judges, is)
-last-of f a s old new (Err e) judges is more = tt
+last-of : {E : Type 0} (f : Typed → Typed) (a : Inferred) (s : Typed) (old new : Tally) (r : Result Inferred
+    E)
+    → Infers a s → new ≡ after old (f s).calls (f s).faults
+    → IfOk r (λ j. (s : Typed) → Infers a s → Infers j (f s)) → Gives (f s) old new r
+last-of f a s old new (Ok j) infers is more = (more s infers, is)
+last-of f a s old new (Err e) infers is more = tt
 
-pub gives-over : {E : Type 0} (f : Typed → Typed) (typing : ℕ → Typed) (fs : List Fault) (a : Judged)
-    (old mid new : Tally) (r : Result Judged E) → mid ≡ with_faults old fs → Stands a (typing mid.calls) mid
+pub gives-over : {E : Type 0} (f : Typed → Typed) (typing : ℕ → Typed) (fs : List Fault) (a : Inferred)
+    (old mid new : Tally) (r : Result Inferred E) → mid ≡ with_faults old fs → Stands a (typing mid.calls) mid
     new
     → ((s : Typed) → (f s).calls ≡ s.calls) → ((s : Typed) → (f s).faults ≡ fs ++ s.faults)
-    → IfOk r (λ j. (s : Typed) → Judges a s → Judges j (f s)) → Gives (f (typing old.calls)) old new r
+    → IfOk r (λ j. (s : Typed) → Infers a s → Infers j (f s)) → Gives (f (typing old.calls)) old new r
 gives-over f typing fs a old mid new r is stands calls faults more =
     let s = typing old.calls in
     let stands : Stands a s (with_faults old fs) new = subst (λ m. Stands a (typing m.calls) m new) is
@@ -119,8 +120,8 @@ constant-faults at (kind.Constant t z) = refl
 constant-faults at kind.Quoted = refl
 constant-faults at (kind.Punct p) = refl
 
-pub gives-constant : {E : Type 0} (at : At) (k : TokenKind) (t : Tally) (r : Result Judged E)
-    → IfOk r (λ j. Judges j (typed_constant_kind at k)) → Gives (typed_constant_kind at k) t t r
+pub gives-constant : {E : Type 0} (at : At) (k : TokenKind) (t : Tally) (r : Result Inferred E)
+    → IfOk r (λ j. Infers j (typed_constant_kind at k)) → Gives (typed_constant_kind at k) t t r
 gives-constant at k t (Ok j) is = let s = typed_constant_kind at k in (
   is,
   after-as t t 0 s.calls [] s.faults (sym (constant-calls at k)) (sym (constant-faults at k))
@@ -128,20 +129,20 @@ gives-constant at k t (Ok j) is = let s = typed_constant_kind at k in (
 )
 gives-constant at k t (Err e) is = tt
 
-pub gives-called : {E : Type 0} (at : At) (j : JudgedCall) (c : TypedCall) (old new : Tally) (r : Result
-    Judged E)
-    → JudgesCall j c → new ≡ after old (typed_called at c).calls (typed_called at c).faults
-    → IfOk r (λ k. (c : TypedCall) → JudgesCall j c → Judges k (typed_called at c)) →
+pub gives-called : {E : Type 0} (at : At) (j : InferredCall) (c : TypedCall) (old new : Tally) (r : Result
+    Inferred E)
+    → InfersCall j c → new ≡ after old (typed_called at c).calls (typed_called at c).faults
+    → IfOk r (λ k. (c : TypedCall) → InfersCall j c → Infers k (typed_called at c)) →
     Gives (typed_called at c)
     old new r
-gives-called at j c old new (Ok k) judges is more = (more c judges, is)
-gives-called at j c old new (Err e) judges is more = tt
+gives-called at j c old new (Ok k) infers is more = (more c infers, is)
+gives-called at j c old new (Err e) infers is more = tt
 
 -- TWO OPERANDS: a chain's step
 
-pub chain-step : (op : Operator) (right : ℕ → Typed) (base mid new : Tally) (s : Typed) (a b j : Judged)
+pub chain-step : (op : Operator) (right : ℕ → Typed) (base mid new : Tally) (s : Typed) (a b j : Inferred)
     → Stands a s base mid → Stands b (right mid.calls) mid new
-    → ((s u : Typed) → Judges a s → Judges b u → Judges j (typed_binary op s u))
+    → ((s u : Typed) → Infers a s → Infers b u → Infers j (typed_binary op s u))
     → Stands j (typed_binary op s (right (base.calls + s.calls))) base new
 chain-step op right base mid new s a b j first second more =
     let u = right (base.calls + s.calls) in
@@ -157,18 +158,18 @@ chain-step op right base mid new s a b j first second more =
 
 -- THREE OPERANDS
 
-select-last : {E : Type 0} (w a b : Judged) (s u v : Typed) (old new : Tally) (r : Result Judged E)
-    → Judges w s → Judges a u → Judges b v → new ≡ after old (typed_select s u v).calls (typed_select s u
+select-last : {E : Type 0} (w a b : Inferred) (s u v : Typed) (old new : Tally) (r : Result Inferred E)
+    → Infers w s → Infers a u → Infers b v → new ≡ after old (typed_select s u v).calls (typed_select s u
     v).faults
-    → IfOk r (λ j. (s u v : Typed) → Judges w s → Judges a u → Judges b v → Judges j (typed_select s u v))
+    → IfOk r (λ j. (s u v : Typed) → Infers w s → Infers a u → Infers b v → Infers j (typed_select s u v))
     → Gives (typed_select s u v) old new r
 select-last w a b s u v old new (Ok j) first second third is more = (more s u v first second third, is)
 select-last w a b s u v old new (Err e) first second third is more = tt
 
-pub gives-select : {E : Type 0} (test holds fails : ℕ → Typed) (w a b : Judged) (old one two new : Tally)
-    (r : Result Judged E) → Stands w (test old.calls) old one → Stands a (holds one.calls) one two
+pub gives-select : {E : Type 0} (test holds fails : ℕ → Typed) (w a b : Inferred) (old one two new : Tally)
+    (r : Result Inferred E) → Stands w (test old.calls) old one → Stands a (holds one.calls) one two
     → Stands b (fails two.calls) two new
-    → IfOk r (λ j. (s u v : Typed) → Judges w s → Judges a u → Judges b v → Judges j (typed_select s u v))
+    → IfOk r (λ j. (s u v : Typed) → Infers w s → Infers a u → Infers b v → Infers j (typed_select s u v))
     → Gives (let s = test old.calls in let u = holds (old.calls + s.calls) in
     typed_select s u (fails (old.calls + s.calls + u.calls))) old new r
 gives-select test holds fails w a b old one two new r first second third more =

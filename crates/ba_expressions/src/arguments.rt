@@ -2,11 +2,11 @@
 
 ghost use Rattle.std.specs.Prelude.{◌≡◌, [], ◌∷◌, ◌++◌, List, IfOk, OnOk};
 ghost use Rattle.ba_typing.specs.Expressions.{Typed, TypedArg, array_arg, named_array, typed_arg, value_arg};
-ghost use Rattle.ba_expressions.specs.Judging.{AreArgs, Judges, Stands, after};
+ghost use Rattle.ba_expressions.specs.Inferring.{AreArgs, Infers, Stands, after};
 ghost use Rattle.ba_tree.specs.Trees.{tree_of_arg};
 ghost use Rattle.ba_expressions.specs.declared.tally.Tally.{Tally};
 
-use crate::judged::Judged;
+use crate::inferred::Inferred;
 use crate::tally::Tally;
 use crate::uses::named_array;
 use ba_numbers::ids::VarId;
@@ -17,33 +17,33 @@ use ba_typing::fault::{Cause, Fault};
 use ba_typing::meanings::ParamType;
 use std::alloc::{AllocError, Global};
 
-/// What is found out about an argument: how it is given, and its height.
+/// What is inferred of an argument: how it is passed, and its height.
 #[derive(Drop)]
-pub struct JudgedArg {
+pub struct InferredArg {
     pub given: Arg,
     pub height: u32,
 }
 
-/// What is found out about arguments: how they are given, and the greatest height of one.
+/// What is inferred of arguments: how they are passed, and the greatest height of one.
 #[derive(Drop)]
-pub struct JudgedArgs {
+pub struct InferredArgs {
     pub given: Vec<Arg>,
     pub tallest: u32,
 }
 
-impl JudgedArgs {
+impl InferredArgs {
     /// No argument. It takes no memory.
-    pub(crate) fn new(alloc: Global) -> JudgedArgs
+    pub(crate) fn new(alloc: Global) -> InferredArgs
         ensures { AreArgs result [] }
     {
-        JudgedArgs {
+        InferredArgs {
             given: Vec::new(alloc),
             tallest: 0,
         }
     }
 
-    /// One argument more. The one error is want of memory.
-    pub(crate) fn push(&mut self, arg: JudgedArg) -> Result<(), AllocError>
+    /// Adds an argument. The only error is out of memory.
+    pub(crate) fn push(&mut self, arg: InferredArg) -> Result<(), AllocError>
         ensures { OnOk result ((es : List TypedArg) (e : TypedArg) → AreArgs self.old es →
             tree_of_arg arg.given ≡ e.given → arg.height ≡ e.expression.height →
             AreArgs self.new (es ++ e ∷ [])) }
@@ -54,19 +54,19 @@ impl JudgedArgs {
     }
 }
 
-/// An expression for a parameter, `None` where the function has no more. The tally has counted it, and `before` was the least fault
-/// before it.
+/// Passes an expression to a parameter, `None` if the function has no more. The tally has counted the
+/// expression; `before` was the first fault before it.
 ///
-/// The one error is want of memory.
+/// The only error is out of memory.
 pub(crate) fn give<'a>(
     alloc: Global,
     scope: &Scope<'a>,
     param: Option<ParamType>,
     before: Option<Fault>,
-    j: Judged<'a>,
+    j: Inferred<'a>,
     tally: &mut Tally,
 ) -> Result<Arg, AllocError>
-    ensures tree { IfOk result (λ arg. (s : Typed) → Judges j.entry s →
+    ensures tree { IfOk result (λ arg. (s : Typed) → Infers j.entry s →
         tree_of_arg arg ≡ (typed_arg scope.now param s).given) }
     ensures faults { OnOk result ((base : Tally) (s : Typed) → before ≡ base.least →
         Stands j.entry s base tally.old →
@@ -86,8 +86,8 @@ pub(crate) fn give<'a>(
 }
 
 /// An expression as a value, converted to the parameter's type.
-fn value_arg<'a>(alloc: Global, t: Option<CType>, j: Judged<'a>) -> Result<Arg, AllocError>
-    ensures { IfOk result (λ arg. (s : Typed) → Judges j.entry s →
+fn value_arg<'a>(alloc: Global, t: Option<CType>, j: Inferred<'a>) -> Result<Arg, AllocError>
+    ensures { IfOk result (λ arg. (s : Typed) → Infers j.entry s →
         tree_of_arg arg ≡ (value_arg t s).given) }
 {
     let t = t.unwrap_or(j.t);
@@ -95,14 +95,14 @@ fn value_arg<'a>(alloc: Global, t: Option<CType>, j: Judged<'a>) -> Result<Arg, 
     Ok(Arg::Value(expr))
 }
 
-/// An expression as an array, where it is one; anything else is at fault.
+/// An expression as an array, if it is one; anything else is at fault.
 fn array_arg<'a>(
     array: Option<VarId>,
     before: Option<Fault>,
-    j: Judged<'a>,
+    j: Inferred<'a>,
     tally: &mut Tally,
 ) -> Arg
-    ensures tree { (s : Typed) → Judges j.entry s
+    ensures tree { (s : Typed) → Infers j.entry s
         → tree_of_arg result ≡ (array_arg array s).given }
     ensures faults { (base : Tally) (s : Typed) → before ≡ base.least →
         Stands j.entry s base tally.old →

@@ -1,16 +1,16 @@
-//! The types, the values and the faults of expressions (C90 6.3).
+//! Type checking of expressions (C90 6.3), with constant folding (C90 6.4).
 
 ghost use Rattle.std.specs.Prelude.{◌≡◌, nat_lt, length, option_map, IfOk};
 ghost use Rattle.std.specs.List.{list_all};
 ghost use Rattle.ba_trees.specs.declared.tree.expressions.Chain.{out-Chain};
 ghost use Rattle.ba_typing.specs.Expressions.{Typed, called, params_of_called, typed_arg, typed_args, typed_arguments, typed_call, typed_chain, typed_conditional, typed_constant_kind, typed_name, typed_operand, typed_primary, typed_token, typed_unary_expression, whole_operand};
-ghost use Rattle.ba_expressions.specs.Judging.{Gives, GivesArg, GivesArgs, GivesCall, Judges, Stands, goes_on, is_left_to_right};
+ghost use Rattle.ba_expressions.specs.Inferring.{Gives, GivesArg, GivesArgs, GivesCall, Infers, Stands, goes_on, is_left_to_right};
 ghost use Rattle.ba_typing.specs.Names.{meaning_of, name_of};
 ghost use Rattle.ba_expressions.specs.declared.tally.Tally.{Tally};
 
-use crate::arguments::{JudgedArg, JudgedArgs, give};
-use crate::judged;
-use crate::judged::{Judged, JudgedCall};
+use crate::arguments::{InferredArg, InferredArgs, give};
+use crate::inferred;
+use crate::inferred::{Inferred, InferredCall};
 use crate::tally::Tally;
 use crate::uses::{
     CallUse, add_array_name_faults, add_call_faults, add_height_fault, add_tag_faults,
@@ -27,16 +27,16 @@ use ba_typing::names::{
 };
 use std::alloc::{AllocError, Global};
 
-/// An expression in a scope: what there is to say of it, and its calls and faults.
+/// An expression in a scope: what is inferred of it; the tally gets its calls and faults.
 ///
-/// The one error is want of memory, which also stands for want of numbers for calls and heights.
+/// The only error is out of memory, also if the numbers for calls or heights run out.
 #[cycle(expression)]
 pub fn conditional<'a>(
     alloc: Global,
     scope: &Scope<'a>,
     c: &'a Conditional,
     tally: &mut Tally,
-) -> Result<Judged<'a>, AllocError>
+) -> Result<Inferred<'a>, AllocError>
     ensures { Gives (typed_conditional c.now scope.now tally.old.calls) tally.old tally.new result }
 {
     let test = operand(alloc, scope, &c.test, tally)?;
@@ -45,19 +45,19 @@ pub fn conditional<'a>(
         Some(branches) => {
             let holds = conditional(alloc, scope, &branches.holds, tally)?;
             let fails = conditional(alloc, scope, &branches.fails, tally)?;
-            judged::select(alloc, test, holds, fails)
+            inferred::select(alloc, test, holds, fails)
         }
     }
 }
 
-/// A unary expression and the chains of operators behind it.
+/// A unary expression and the chains of operators after it.
 #[cycle(expression)]
 fn operand<'a>(
     alloc: Global,
     scope: &Scope<'a>,
     o: &'a Operand,
     tally: &mut Tally,
-) -> Result<Judged<'a>, AllocError>
+) -> Result<Inferred<'a>, AllocError>
     ensures { Gives (whole_operand (typed_operand o.now) scope.now tally.old.calls)
         tally.old tally.new result }
 {
@@ -85,8 +85,8 @@ fn goes_on(level: u32, rest: &Option<Box<Chain>>) -> bool
     }
 }
 
-/// Whether the operators in a chain's operand bind tighter than its own, and those of its rest do not: whether its value is that of its
-/// operator over the whole operand, and then of the rest.
+/// Whether the operators in a chain's operand bind tighter than its own, and those of its rest do not. Its
+/// value is then that of its operator over the whole operand, followed by the rest.
 fn is_left_to_right(c: &Chain) -> bool
     ensures { result ≡ is_left_to_right c.now }
 {
@@ -95,17 +95,17 @@ fn is_left_to_right(c: &Chain) -> bool
     is_inside && is_behind
 }
 
-/// A chain of operators behind its leftmost operand.
+/// A chain of operators after its leftmost operand.
 ///
-/// The one error is want of memory, which also stands for a chain that no parser makes.
+/// The only error is out of memory, also for a chain that no parser makes.
 #[cycle(expression)]
 fn chain<'a>(
     alloc: Global,
     scope: &Scope<'a>,
     c: &'a Chain,
-    left: Judged<'a>,
+    left: Inferred<'a>,
     tally: &mut Tally,
-) -> Result<Judged<'a>, AllocError>
+) -> Result<Inferred<'a>, AllocError>
     ensures { (base : Tally) (s : Typed) → Stands left.entry s base tally.old →
         Gives ((typed_chain c.now).over scope.now base.calls s) base tally.new result }
 {
@@ -114,7 +114,7 @@ fn chain<'a>(
     }
     let right = operand(alloc, scope, &c.operand, tally)?;
     let operator = binary_operator(punct_of(&c.operator));
-    let left = judged::binary(alloc, operator, left, right)?;
+    let left = inferred::binary(alloc, operator, left, right)?;
     match &c.rest {
         None => Ok(left),
         Some(rest) => chain(alloc, scope, rest, left, tally),
@@ -128,14 +128,14 @@ fn unary<'a>(
     scope: &Scope<'a>,
     u: &'a Unary,
     tally: &mut Tally,
-) -> Result<Judged<'a>, AllocError>
+) -> Result<Inferred<'a>, AllocError>
     ensures { Gives (typed_unary_expression u.now scope.now tally.old.calls)
         tally.old tally.new result }
 {
     match u {
         Unary::Prefix { operator, operand } => {
             let a = unary(alloc, scope, operand, tally)?;
-            judged::unary(alloc, operator.at, unary_operator(punct_of(operator)), a)
+            inferred::unary(alloc, operator.at, unary_operator(punct_of(operator)), a)
         }
         Unary::Cast {
             open,
@@ -147,7 +147,7 @@ fn unary<'a>(
             add_tag_faults(tag_of_type(name), scope, tally);
             tally.add_if(is_void(to), Cause::WrongKind, open.at);
             let a = unary(alloc, scope, operand, tally)?;
-            judged::cast(alloc, open.at, to, a)
+            inferred::cast(alloc, open.at, to, a)
         }
         Unary::Primary(p) => primary(alloc, scope, p, tally),
     }
@@ -160,7 +160,7 @@ fn primary<'a>(
     scope: &Scope<'a>,
     p: &'a Primary,
     tally: &mut Tally,
-) -> Result<Judged<'a>, AllocError>
+) -> Result<Inferred<'a>, AllocError>
     ensures { Gives (typed_primary p.now scope.now tally.old.calls) tally.old tally.new result }
 {
     match p {
@@ -169,7 +169,7 @@ fn primary<'a>(
             let meaning = scope.meaning_of(&name_of(name));
             add_array_name_faults(&meaning, name.at, tally);
             let index = conditional(alloc, scope, index, tally)?;
-            judged::element(alloc, name.at, &meaning, index)
+            inferred::element(alloc, name.at, &meaning, index)
         }
         Primary::Call {
             name,
@@ -177,7 +177,7 @@ fn primary<'a>(
             ..
         } => {
             let j = call(alloc, scope, true, name, arguments, tally)?;
-            judged::called(name.at, j)
+            inferred::called(name.at, j)
         }
         Primary::Constant { constant } => token_value(scope, constant, tally),
         Primary::Parenthesized {
@@ -196,7 +196,7 @@ fn named<'a>(
     scope: &Scope<'a>,
     name: &'a Token,
     tally: &mut Tally,
-) -> Result<Judged<'a>, AllocError>
+) -> Result<Inferred<'a>, AllocError>
     ensures { Gives
         (typed_name name.now.at (name_of name.now) (meaning_of scope.now (name_of name.now)))
         tally.old tally.new result }
@@ -204,7 +204,7 @@ fn named<'a>(
     let text = name_of(name);
     let meaning = scope.meaning_of(&text);
     add_value_name_faults(&meaning, name.at, tally);
-    judged::name(name.at, text, &meaning)
+    inferred::name(name.at, text, &meaning)
 }
 
 /// A name or a constant, by the kind of its token.
@@ -212,7 +212,7 @@ fn token_value<'a>(
     scope: &Scope<'a>,
     token: &'a Token,
     tally: &mut Tally,
-) -> Result<Judged<'a>, AllocError>
+) -> Result<Inferred<'a>, AllocError>
     ensures { Gives (typed_token token.now scope.now tally.old.calls) tally.old tally.new result }
 {
     match &token.kind {
@@ -222,19 +222,23 @@ fn token_value<'a>(
 }
 
 /// A constant token.
-fn constant_of<'a>(constant: &'a Token) -> Result<Judged<'a>, AllocError>
-    ensures { IfOk result (λ j. Judges j (typed_constant_kind constant.now.at constant.now.kind)) }
+fn constant_of<'a>(constant: &'a Token) -> Result<Inferred<'a>, AllocError>
+    ensures { IfOk result (λ j. Infers j (typed_constant_kind constant.now.at constant.now.kind)) }
 {
     match &constant.kind {
-        TokenKind::Constant { t, value } => judged::constant(constant.at, *t, convert(*t, *value)),
-        _ => judged::constant(constant.at, CType::I32, 0),
+        TokenKind::Constant { t, value } => inferred::constant(
+            constant.at,
+            *t,
+            convert(*t, *value),
+        ),
+        _ => inferred::constant(constant.at, CType::I32, 0),
     }
 }
 
-/// A call of a name with these arguments, as a value or as a statement: what there is to say of it, and its calls and faults. The
-/// arguments of a statement are looked at each as a whole.
+/// A call of a name with these arguments, as a value or as a statement: what is inferred of it. The tally
+/// gets its calls and faults. In a statement each argument is a whole expression.
 ///
-/// The one error is want of memory, which also stands for want of numbers for calls and heights.
+/// The only error is out of memory, also if the numbers for calls or heights run out.
 #[cycle(expression)]
 pub fn call<'a>(
     alloc: Global,
@@ -243,7 +247,7 @@ pub fn call<'a>(
     name: &'a Token,
     a: &'a Arguments,
     tally: &mut Tally,
-) -> Result<JudgedCall, AllocError>
+) -> Result<InferredCall, AllocError>
     ensures { GivesCall (record { as_value = as_value; at = name.now.at })
         (typed_call as_value name.now.at (name_of name.now) (typed_arguments a.now)
         scope.now tally.old.calls) tally.old tally.new result }
@@ -258,7 +262,7 @@ pub fn call<'a>(
     let call = tally.next_call()?;
     add_call_faults(&text, &meaning, definition, usage, count_of(a), tally);
     let args = arguments(alloc, scope, usage, definition, a, tally)?;
-    Ok(JudgedCall {
+    Ok(InferredCall {
         call,
         function: function_of(definition),
         result: result_of(definition),
@@ -286,12 +290,12 @@ fn arguments<'a>(
     definition: Option<&Signature<'a>>,
     a: &'a Arguments,
     tally: &mut Tally,
-) -> Result<JudgedArgs, AllocError>
+) -> Result<InferredArgs, AllocError>
     ensures { GivesArgs usage (typed_args scope.now tally.old.calls
         (params_of_called (option_map (λ s. s.now) definition.entry)) (typed_arguments a.now))
         tally.old tally.new result }
 {
-    let mut args = JudgedArgs::new(alloc);
+    let mut args = InferredArgs::new(alloc);
     let Some(values) = &a.values else {
         return Ok(args);
     };
@@ -310,7 +314,7 @@ fn arguments<'a>(
     Ok(args)
 }
 
-/// An argument for a parameter, `None` where the function has no more.
+/// An argument for a parameter, `None` if the function has no more.
 #[cycle(expression)]
 fn argument<'a>(
     alloc: Global,
@@ -319,7 +323,7 @@ fn argument<'a>(
     param: Option<ParamType>,
     c: &'a Conditional,
     tally: &mut Tally,
-) -> Result<JudgedArg, AllocError>
+) -> Result<InferredArg, AllocError>
     ensures { GivesArg usage
         (typed_arg scope.now param (typed_conditional c.now scope.now tally.old.calls))
         tally.old tally.new result }
@@ -329,5 +333,5 @@ fn argument<'a>(
     let height = j.height;
     let given = give(alloc, scope, param, before, j, tally)?;
     add_height_fault(usage, height, tally);
-    Ok(JudgedArg { given, height })
+    Ok(InferredArg { given, height })
 }

@@ -1,8 +1,8 @@
-//! What is counted while a program is judged: calls, and the fault that comes first.
+//! What is counted while a program is type checked: calls, and the fault that comes first.
 
 ghost use Rattle.std.specs.Prelude.{◌≡◌, ◌+◌, ℕ, Some, List, [], ◌∷◌, IfOk, OnOk, OnErr, MatchOption};
 ghost use Rattle.ba_typing.specs.Faults.{IsFirst, fault_if, limit_faults};
-ghost use Rattle.ba_expressions.specs.Judging.{after, nothing_found, sooner, with_faults};
+ghost use Rattle.ba_expressions.specs.Inferring.{after, nothing_found, sooner, with_faults};
 ghost use Rattle.ba_typing.specs.declared.fault.Fault.{Fault};
 
 use ba_numbers::ids::{At, CallId};
@@ -12,7 +12,7 @@ use std::alloc::AllocError;
 /// The greatest height that an expression may have.
 pub const HEIGHT_LIMIT: u32 = 100;
 
-/// How many calls stand before, and the least fault so far.
+/// How many calls come before, and the first fault so far.
 #[derive(Clone, Copy)]
 pub struct Tally {
     pub calls: u32,
@@ -20,7 +20,7 @@ pub struct Tally {
 }
 
 impl Tally {
-    /// Nothing was found yet.
+    /// No call and no fault.
     pub fn new() -> Tally
         ensures { result ≡ nothing_found }
     {
@@ -30,7 +30,7 @@ impl Tally {
         }
     }
 
-    /// The first of all faults that were found, `None` where there is none.
+    /// The first fault that was found, `None` if there is none.
     pub fn first_fault(&self) -> Option<Fault>
         ensures { (calls : ℕ) (faults : List Fault) → self.now ≡ after nothing_found calls faults →
             MatchOption result (faults ≡ []) (IsFirst faults) }
@@ -38,7 +38,7 @@ impl Tally {
         self.least
     }
 
-    /// The fault is among those so far.
+    /// Adds a fault.
     pub fn add(&mut self, fault: Fault)
         ensures { self.new ≡ with_faults self.old (fault ∷ []) }
     {
@@ -48,7 +48,7 @@ impl Tally {
         };
     }
 
-    /// So is one of this cause at this position, where something is so.
+    /// Adds a fault of this cause at this position, if `is_so` is true.
     pub fn add_if(&mut self, is_so: bool, cause: Cause, at: At)
         ensures { self.new ≡ with_faults self.old (fault_if is_so cause at) }
     {
@@ -57,14 +57,14 @@ impl Tally {
         }
     }
 
-    /// So is one where the item of this number, counted from 1, is past the limit.
+    /// Adds a fault if the item of this number, counted from 1, is past the limit.
     pub fn add_limit(&mut self, limit: u32, number: u32, at: At)
         ensures { self.new ≡ with_faults self.old (limit_faults limit number at) }
     {
         self.add_if(limit < number, Cause::Limit, at);
     }
 
-    /// The number of the next call. The one error is want of memory, which stands for want of numbers.
+    /// The number of the next call. The only error is out of memory, also if the numbers run out.
     pub fn next_call(&mut self) -> Result<CallId, AllocError>
         ensures number { IfOk result (λ call. call ≡ record { 0 = self.old.calls + 1 }) }
         ensures counted { OnOk result (self.new ≡ after self.old 1 []) }
@@ -78,7 +78,7 @@ impl Tally {
     }
 }
 
-/// The one of two faults that comes first, the first one where they are equal.
+/// The fault of the two that comes first; the first one if they are equal.
 fn sooner(least: Fault, fault: Fault) -> Fault
     ensures { Some result ≡ sooner (Some least) fault }
 {

@@ -1,4 +1,4 @@
-//! Typed trees of expressions from those of their operands. The one error of each function is want of memory.
+//! Typed trees of expressions from those of their operands. The only error of each function is out of memory.
 
 ghost use Rattle.std.specs.Prelude.{◌≡◌, IfOk};
 ghost use Rattle.ba_tree.specs.Trees.{and_also, binary, convert, element, or_else, select, tree_of_expr, unary};

@@ -1,12 +1,12 @@
-//! Uses of names: what is at fault with them, and what they stand for (C90 6.3.1, 6.3.2).
+//! Uses of names: their faults, and their meanings (C90 6.3.1, 6.3.2).
 
 ghost use Rattle.std.specs.Prelude.{◌≡◌, ◌==◌, cond, option_map, slice_get, []};
 ghost use Rattle.ba_typing.specs.Expressions.{array_given, function_of, named_array, params_of_called, result_of};
 ghost use Rattle.ba_typing.specs.Faults.{array_name_faults, call_faults, count_of_params, definition_faults, height_limit, limit_faults, tag_faults, target_name_faults, value_name_faults};
-ghost use Rattle.ba_expressions.specs.Judging.{with_faults};
+ghost use Rattle.ba_expressions.specs.Inferring.{with_faults};
 ghost use Rattle.ba_typing.specs.Names.{is_main_name};
 
-use crate::judged::is_array;
+use crate::inferred::is_array;
 use crate::tally::{HEIGHT_LIMIT, Tally};
 use ba_numbers::ids::{At, FnId, VarId};
 use ba_numbers::numbers::CType;
@@ -18,14 +18,14 @@ use ba_typing::meanings::{Meaning, ParamType, Signature};
 use ba_typing::names::name_of;
 use ba_typing::text::Text;
 
-/// How a call is used: as a value or as a statement, and the position of the name that is called.
+/// How a call is used, as a value or as a statement, and the position of the called name.
 #[derive(Clone, Copy)]
 pub struct CallUse {
     pub as_value: bool,
     pub at: At,
 }
 
-/// The faults of a name as a value.
+/// Adds the faults of a name as a value.
 pub fn add_value_name_faults(meaning: &Meaning, at: At, tally: &mut Tally)
     ensures { tally.new ≡ with_faults tally.old (value_name_faults meaning.now at) }
 {
@@ -37,7 +37,7 @@ pub fn add_value_name_faults(meaning: &Meaning, at: At, tally: &mut Tally)
     }
 }
 
-/// The faults of a name whose element is taken.
+/// Adds the faults of a name whose element is taken.
 pub fn add_array_name_faults(meaning: &Meaning, at: At, tally: &mut Tally)
     ensures { tally.new ≡ with_faults tally.old (array_name_faults meaning.now at) }
 {
@@ -49,7 +49,7 @@ pub fn add_array_name_faults(meaning: &Meaning, at: At, tally: &mut Tally)
     }
 }
 
-/// That of an enumeration constant's name that is assigned to.
+/// Adds the fault of an enumeration constant's name that is assigned to.
 pub fn add_target_name_faults(meaning: &Meaning, at: At, tally: &mut Tally)
     ensures { tally.new ≡ with_faults tally.old (target_name_faults meaning.now at) }
 {
@@ -59,7 +59,7 @@ pub fn add_target_name_faults(meaning: &Meaning, at: At, tally: &mut Tally)
     }
 }
 
-/// That of a tag without a list, where no tag of its name is in scope.
+/// Adds the fault of a tag without a list, if no tag of its name is in scope.
 pub fn add_tag_faults<'a>(tag: Option<&'a Token>, scope: &Scope<'a>, tally: &mut Tally)
     ensures { tally.new ≡ with_faults tally.old
         (tag_faults scope.now (option_map (λ t. t.now) tag.entry)) }
@@ -70,7 +70,7 @@ pub fn add_tag_faults<'a>(tag: Option<&'a Token>, scope: &Scope<'a>, tally: &mut
     }
 }
 
-/// The faults of a name that is called, which has this definition, with so many arguments.
+/// Adds the faults of a called name with this definition and this number of arguments.
 pub fn add_call_faults(
     name: &Text,
     meaning: &Meaning,
@@ -94,7 +94,7 @@ pub fn add_call_faults(
     }
 }
 
-/// The faults of a function that is called.
+/// Adds the faults of a function that is called.
 fn add_definition_faults(
     definition: Option<&Signature>,
     call: CallUse,
@@ -133,7 +133,7 @@ pub fn is_main(name: &Text) -> bool
     b"main".as_slice() == name.as_bytes()
 }
 
-/// The height of an argument of a call as a statement is limited.
+/// Adds the fault of an argument of a call statement that is too high.
 pub fn add_height_fault(call: CallUse, height: u32, tally: &mut Tally)
     ensures { tally.new ≡ with_faults tally.old
         (cond call.as_value [] (limit_faults height_limit height call.at)) }
@@ -143,7 +143,7 @@ pub fn add_height_fault(call: CallUse, height: u32, tally: &mut Tally)
     }
 }
 
-/// The type of the parameter of this number, counted from 0, `None` where the function has no more.
+/// The type of the parameter of this number, counted from 0, `None` if the function has no more.
 pub fn param_of(definition: Option<&Signature>, number: usize) -> Option<ParamType>
     ensures { result ≡ slice_get (params_of_called (option_map (λ s. s.now) definition.entry))
         number }
@@ -157,7 +157,7 @@ pub fn param_of(definition: Option<&Signature>, number: usize) -> Option<ParamTy
     }
 }
 
-/// The function that is called; without a definition, anything.
+/// The called function; any number without a definition.
 pub fn function_of(definition: Option<&Signature>) -> FnId
     ensures { result ≡ function_of (option_map (λ s. s.now) definition.entry) }
 {
@@ -167,7 +167,7 @@ pub fn function_of(definition: Option<&Signature>) -> FnId
     }
 }
 
-/// The type of what it returns; without a result, anything.
+/// The type that a called function returns; any type without a result.
 pub fn result_of(definition: Option<&Signature>) -> CType
     ensures { result ≡ result_of (option_map (λ s. s.now) definition.entry) }
 {
@@ -177,7 +177,7 @@ pub fn result_of(definition: Option<&Signature>) -> CType
     }
 }
 
-/// The array that a name stands for where one of such elements is wanted, `None` where it stands for none.
+/// The array that a name denotes, if its elements have the wanted type; `None` otherwise.
 pub fn named_array<'a>(
     scope: &Scope<'a>,
     t: Option<CType>,
@@ -191,7 +191,7 @@ pub fn named_array<'a>(
     }
 }
 
-/// The array that a name of this meaning is, where it is one of such elements.
+/// The array that a name of this meaning denotes, if its elements have this type.
 fn array_given(t: Option<CType>, meaning: &Meaning) -> Option<VarId>
     ensures { result ≡ array_given t meaning.now }
 {

@@ -1,4 +1,5 @@
-//! The types and the values of operators on constants (C90 6.2.1, 6.3, 6.4). A value is `None` where it is not constant or traps.
+//! The types and the values of operators on constants (C90 6.2.1, 6.3, 6.4). A value is `None` if it is not
+//! constant or traps.
 
 ghost use Rattle.std.specs.Prelude.{◌≡◌, ℤ, pos, Some, cond, option_and_then, option_map};
 ghost use Rattle.ba_numbers.specs.Numbers.{converted, value_of, value_of_one};
@@ -43,7 +44,7 @@ fn truth_of(value: i64) -> i64
     i64::from(value != 0)
 }
 
-/// The value of `&&`, whose right operand counts only where the left one is not 0 (C90 6.3.13).
+/// The value of `&&`, whose right operand counts only if the left one is not 0 (C90 6.3.13).
 pub(crate) fn and_also(a: Option<i64>, b: Option<i64>) -> Option<i64>
     ensures { result
         ≡ option_and_then (λ y. cond (is_true y) (option_map truth_of b) (Some (pos 0))) a }
@@ -56,7 +57,7 @@ pub(crate) fn and_also(a: Option<i64>, b: Option<i64>) -> Option<i64>
     Some(truth_of(b))
 }
 
-/// The value of `||`, whose right operand counts only where the left one is 0 (C90 6.3.14).
+/// The value of `||`, whose right operand counts only if the left one is 0 (C90 6.3.14).
 pub(crate) fn or_else(a: Option<i64>, b: Option<i64>) -> Option<i64>
     ensures { result
         ≡ option_and_then (λ y. cond (is_true y) (Some (pos 1)) (option_map truth_of b)) a }

@@ -62,7 +62,7 @@ pub short_of_memory : (name : Option Word) (old new : Outside) → IsUnreadIfNam
 short_of_memory None old new = refl
 short_of_memory (Some name) old new = tt
 
--- a text that was added, where no error came
+-- a text that was added, if no error came
 pub text_added : {T E : Type 0} (r : Result T E) (failed : Bool) (old other now : List (List ℕ))
     (text : List ℕ) → failed ≡ is_err r → failed ≡ false → now ≡ (if is_ok r then old ++ text ∷ [] else other)
     → now ≡ old ++ text ∷ []

@@ -57,7 +57,7 @@ fault_read name told old new is (inl opening) = by opening.cause where
   by (inl rose) = rose
   by (inr gone) = let no : ⊥ = cc (is, gone) in absurd no
 
--- the same where a file may have no name
+-- the same if a file may have no name
 
 text_still : (before opened : Outside) (name : Option Word) (text : List ℕ) → OnlyReads before opened
     → TellsText before name text → TellsText opened name text
@@ -129,7 +129,7 @@ unread_stops read.Memory cause (Some name) old new never stops = absurd never
 unread_stops read.Failed read.Memory (Some name) old new told stops = inr (memory refl)
 unread_stops read.TooLong read.Memory (Some name) old new told stops = inr (memory refl)
 
--- ALL FILES of a list: where they are told, and where one is told that can't be read whole
+-- ALL FILES of a list: if they are told, and if one is told that can't be read whole
 
 -- only reading goes on
 pub all_only : (files : List Named) (texts : List (List ℕ)) (before after : Outside) →
@@ -170,7 +170,7 @@ all_stops (file ∷ files) (one ∷ told) other cause before opened after reads 
     (all_stops files told other cause before next after (only_reads_on before opened next reads only) tells
     stops)
 
--- where one is told that can't be read whole, not all were read
+-- if one is told that can't be read whole, not all were read
 pub stop_read : (files : List Named) (which : File) (error : ReadFileError) (texts : List (List ℕ))
     (before opened after : Outside) → OnlyReads before opened → TellsStop which error before files
     → AreRead files texts opened after → ⊥

@@ -13,14 +13,14 @@ use ba_items::Items;
 use ba_world::{ReadFileError, World, read_whole};
 use std::alloc::Global;
 
-/// A file that a call reads, and its name, if the words name it.
+/// A file that a call reads, and its name, if the words give one.
 #[derive(Drop)]
 pub struct Named<'a> {
     pub file: File,
     pub name: Option<Text<'a>>,
 }
 
-/// Why files weren't read: which of them wasn't, and why.
+/// The file that wasn't read, and why.
 #[derive(Clone, Copy)]
 pub struct Unread {
     pub file: File,
@@ -28,7 +28,7 @@ pub struct Unread {
 }
 
 impl Unread {
-    /// The answer then; none for want of memory.
+    /// The answer for the file; none if memory ran out.
     pub fn answer(self) -> Option<Answer>
         ensures { result ≡ answer_for self.file self.error }
     {
@@ -60,7 +60,7 @@ fn read_file<W: World>(
     }
 }
 
-/// Reads a file whole, if it is named.
+/// Reads a file whole, if it has a name.
 fn read_if_named<W: World>(alloc: Global, world: &mut W, named: &Named) -> Result<Items<u8>, Unread>
     ensures ok { IfOk result (λ text.
         IsReadIfNamed named.now.name text (W.outside world.old) (W.outside world.new)) }
@@ -76,9 +76,9 @@ fn read_if_named<W: World>(alloc: Global, world: &mut W, named: &Named) -> Resul
     }
 }
 
-/// Reads files, each of them whole, one after the other. The text of a file without a name is empty.
+/// Reads files one after the other, each whole. The text of a file without a name is empty.
 ///
-/// It stops at the first file that can't be read, or is longer than 65,536 bytes.
+/// Reading stops at the first file that can't be read, or is longer than 65,536 bytes.
 pub fn read_files<W: World>(
     alloc: Global,
     world: &mut W,

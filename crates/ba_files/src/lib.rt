@@ -1,4 +1,4 @@
-//! The files that a call reads: each that its words name, whole and one after the other.
+//! The reader of the files of a call: each that its words name, whole, one after the other.
 #![tactic(auto)]
 
 mod files;

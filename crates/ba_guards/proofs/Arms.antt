@@ -208,7 +208,7 @@ no-value Rem t a b h = undivided (int_eq (converted t b) (pos 0)) (int_rem (conv
     t h
 no-value _ t a b h = absurd (cc)
 
--- a part that traps where it has no value
+-- a part that traps if it has no value
 trapped : (to : ℕ) (stmt : StmtId) (o : Option ℤ) (z : ℤ) (b : Bool) (s : Traced) → (b ≡ true →
     o ≡ Some z) → (b ≡ false → o ≡ None)
     → then_do (checked_by b (Trap stmt) s) (after_part (untraced (λ c. set_variable to z c)))

@@ -520,7 +520,7 @@ starts-array d old new n len zs os s here there all long is means =
 
 -- ALL PARAMETERS
 
--- the run stands where these parameters, with what is given to them, have still to be given
+-- the run is where these parameters, with what is given to them, have still to be given
 pub record Gives (d : Declared) (b : Builder) (params : List Param) (values : List (List ℤ)) (s :
     CodeState) : Type 0 where
   pub now : CodeState

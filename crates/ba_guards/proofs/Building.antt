@@ -79,7 +79,7 @@ switches-by d old new which since live vars fits below live_below same e = recor
       f));
 }
 
--- WHERE THE RUN STANDS behind two ways
+-- WHERE THE RUN STANDS after two ways
 
 module _ (old new : List WordOp) (count : ℕ) (live1 : ℕ) (vars1 : List ℕ) (live2 : ℕ) (vars2 : List ℕ) where
   -- the run takes no first way

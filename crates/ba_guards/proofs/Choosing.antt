@@ -21,7 +21,7 @@ use Rattle.ba_wordlist.specs.Facts.{are_names}
 use Rattle.ba_wordlist.specs.Meaning.{Assignment, values_of}
 use Rattle.ba_wordlist.specs.declared.words.WordOp.{WordOp}
 
--- the words behind which the other side begins
+-- the words after which the other side begins
 pub record Over (old new : Builder) : Type 0 where
   pub more : List WordOp
   pub grown : new.words ≡ old.words ++ more

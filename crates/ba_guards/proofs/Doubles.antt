@@ -153,7 +153,7 @@ doubled ws ws1 ws2 new k of i v index value i2 v2 word count s fit sides found l
           (was t));
     }
 
--- the sides of a branch, behind more words
+-- the sides of a branch, after more words
 pub sides-later : (ws more new : List WordOp) (s : Sides) → AreSides ws s → new ≡ ws ++ more → AreSides new s
 sides-later ws more new s sides grown =
     let le : length ws ≤ length new = omega (arith, ap length grown, length-append ws more) in

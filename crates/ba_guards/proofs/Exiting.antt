@@ -43,7 +43,7 @@ exit-more labels x label = exit-append 0 0 label labels x
 
 -- WHICH EXIT IS TAKEN
 
--- the one, or where that is none the other
+-- the one, or if that is none the other
 abbrev pub or_left : Status → Status → Status
 or_left idle other = other
 or_left (running m) other = running m

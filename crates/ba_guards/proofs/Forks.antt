@@ -51,7 +51,7 @@ pub or-nonzero : (c : Bool) (x : ℤ) → is_nonzero (cond c (pos 1) x) ≡ (c |
 or-nonzero true x = refl
 or-nonzero false x = refl
 
--- WORDS were added behind a builder
+-- WORDS were added after a builder
 
 abbrev pub on_at : Assignment → Builder → Bool
 on_at f b = is_live (values_of f b.words) b
@@ -95,7 +95,7 @@ module _ (d : Declared) (b : Builder) (ws more : List WordOp) (fits : Fits d b) 
   pub later-met : are_met (values_of f ws) b.require ≡ met f b
   later-met = met-kept d b fits (values_of f ws) f kept
 
--- behind two ways, where only what the run takes counts
+-- after two ways, if only what the run takes counts
 pub ways-stand : (on one two : Bool) (m m1 m2 : ℕ → ℤ) (rest : Status) (a : ℕ →
     List ℤ) (l : List Place) → on ≡ (one || two)
     → (one ≡ true → m ≡ m1) → (one ≡ false → two ≡ true → m ≡ m2)
@@ -388,7 +388,7 @@ module _ (d : Declared) (which : ℕ) (b0 b1 b2 b3 b4 b5 : Builder) (p q : Part)
   fork-runs r f rest true is kept_both = yes-runs r f rest is kept_both
   fork-runs r f rest false is kept_both = no-runs r f rest is kept_both
 
-  -- the same side is taken where the words so far are the same
+  -- the same side is taken if the words so far are the same
   same-side : (f g : Assignment) → ((k : ℕ) → k < length b0.words → f k ≡ g k) → c f ≡ c g
   same-side f g same = ap (λ vs. is_nonzero (value_at vs which)) (values-agree f g b0.words same)
 

@@ -1,4 +1,4 @@
--- Parts of a run, one behind the other.
+-- Parts of a run, one after the other.
 use Rattle.std.proofs.Common.{◌≡◌, ℕ, ◌+◌, ◌<◌, ◌≤◌, ℤ, Bool, true, false, ◌&&◌, cond, Some, None, Ok, Err, List, [], ◌∷◌, ◌++◌, length, refl, sym, ◌∙◌, ap, arith, append_assoc, append-nil}
 use Rattle.std.proofs.lemmas.Bool.{and_from, and_parts}
 use Rattle.std.proofs.lemmas.List.{length-append}
@@ -37,7 +37,7 @@ is_running idle = false
 is_running (running variables) = true
 is_running (left exit variables) = false
 
--- where the run doesn't come to a part, this changes nothing
+-- if the run doesn't come to a part, this changes nothing
 pub resting : (labels : List ℕ) (part : TracedExecution) (s : Snapshot) (cs : List Choice)
     → is_running s.status ≡ false → continued labels part s cs ≡ Some (s, cs)
 resting labels part s cs off = at s.status off where
@@ -109,7 +109,7 @@ extends-none b = record {
   writes = writes-none b b refl refl refl;
 }
 
--- both parts do the same where the words before them are the same
+-- both parts do the same if the words before them are the same
 abbrev pub AreLocal : Builder → Part → Part → Type 0
 AreLocal old p q = (f g : Assignment) → ((k : ℕ) → k < length old.words → f k ≡ g k) →
     (p f ≡ p g) × (q f ≡ q g)
@@ -250,7 +250,7 @@ left-resting vs k [] = refl
 left-resting vs k (e ∷ es) = either-resting (is_nonzero (value_at vs e.live)) k (variables_at vs e.vars)
     (left_from vs (k + 1) es) (left-resting vs (k + 1) es)
 
--- the run comes to the end of the list where its word isn't 0
+-- the run comes to the end of the list if its word isn't 0
 pub live-running : (vs : List (List ℤ)) (b : Builder) → is_running (status_at vs b) ≡ is_live vs b
 live-running vs b = at (is_live vs b) where
   at : (on : Bool) → is_running (cond on (running (variables_at vs b.vars)) (left_from vs 0 b.exits)) ≡ on
@@ -273,7 +273,7 @@ same-continued p q f b cs same = same-ends (labels_of b.exits) p q (is_live (val
     (variables_at (values_of f b.words) b.vars) (left_from (values_of f b.words) 0 b.exits) (snapshot f b) cs
     (left-resting (values_of f b.words) 0 b.exits) same
 
--- what a part does counts only where the run comes to it
+-- what a part does counts only if the run comes to it
 pub means-as : (d : Declared) (p q : Part) (old new : Builder) → Means d p old new
     → ((f : Assignment) (r : Relaxes) (cs : List Choice) →
     p f r (traced_of f old cs) ≡ q f r (traced_of f old cs))

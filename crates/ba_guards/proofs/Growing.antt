@@ -207,7 +207,7 @@ same-grown f old new more grown = subst (λ ws. SameBelow (length old) (values_o
     (sym grown)
     (elements-kept f old more)
 
--- what an entry has, behind which there are more
+-- what an entry has, after which there are more
 pub word-later : (f : Assignment) (old new more : List WordOp) (w : ℕ) → new ≡ old ++ more → w < length old
     → word_in new w f ≡ word_in old w f
 word-later f old new more w grown below =

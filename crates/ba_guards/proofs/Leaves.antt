@@ -91,7 +91,7 @@ arrays-unset vs ws k w within same = extensional (λ m. at m (cases_eq m k)) whe
 
 -- GOING ON
 
--- a part that goes on where the run comes to it
+-- a part that goes on if the run comes to it
 pub leaf-runs : (labels : List ℕ) (part : TracedExecution) (on : Bool) (m m' : ℕ → ℤ) (rest : Status)
     (arrays arrays' : ℕ → List ℤ) (places : List Place) (cs : List Choice) → is_running rest ≡ false
     → (on ≡ true → after_end labels (part (record {
@@ -241,7 +241,7 @@ module _ (d : Declared) (b : Builder) (fits : Fits d b) (to : ℕ) (value : Assi
   assign-means = means-steady d (λ f r. untraced (λ c. set_variable to (value f c) c)) b assigned (λ f.
       true) assigned-steady
 
--- AN ARRAY gets elements, where the run comes to it
+-- AN ARRAY gets elements, if the run comes to it
 
 module _ (d : Declared) (b : Builder) (fits : Fits d b) (array : ℕ) (elements : Assignment → CodeState →
     List ℤ) (w : ℕ)
@@ -303,7 +303,7 @@ module _ (d : Declared) (b : Builder) (fits : Fits d b) (array : ℕ) (elements 
   store-means = means-steady d (λ f r. untraced (λ c. set_array array (elements f c) c)) b stored (λ f.
       true) stored-steady
 
--- A REQUIREMENT, where the run comes to it
+-- A REQUIREMENT, if the run comes to it
 
 module _ (d : Declared) (b : Builder) (fits : Fits d b) (value : Assignment → ℤ) (new : Builder)
     (asks : Demands d b new value) (test : Assignment → CodeState → Bool) (h : Halt)

@@ -13,12 +13,12 @@ use Rattle.ba_wordlist.specs.Facts.{are_names, are_words}
 use Rattle.ba_wordlist.specs.Meaning.{Assignment, is_nonzero, values_of}
 use Rattle.ba_wordlist.specs.declared.words.WordOp.{WordOp}
 
--- a variable has the one word's value where a condition holds, and else the other's
+-- a variable has the one word's value if a condition holds, and else the other's
 abbrev pub Chooses : List WordOp → List WordOp → ℕ → List ℕ → List ℕ → List ℕ → ℕ → Type 0
 Chooses old new which ys ns cur k = (f : Assignment) → word_in new (get_or cur k 0) f
     ≡ cond (holds_in old which f) (word_in old (get_or ys k 0) f) (word_in old (get_or ns k 0) f)
 
--- what was merged, but for the rest
+-- what was merged, except for the rest
 pub record Merging (old new : List WordOp) (which : ℕ) (rest ys ns cur : List ℕ) : Type 0 where
   pub more : List WordOp
   pub grown : new ≡ old ++ more

@@ -20,7 +20,7 @@ use Rattle.ba_wordlist.proofs.Values.{value-same, values-agree}
 use Rattle.ba_wordlist.specs.Meaning.{Assignment, is_nonzero, value_at, values_of}
 use Rattle.ba_wordlist.specs.declared.words.WordOp.{WordOp}
 
--- WORDS, one behind another
+-- WORDS, one after another
 
 pub emits-after : (old mid new : List WordOp) (a w : ℕ) (ha hw h : Assignment → ℤ) → Emits old mid a ha →
     Emits mid new w hw
@@ -37,7 +37,7 @@ pub word-agree : (f g : Assignment) (ws : List WordOp) (w : ℕ) → ((k : ℕ) 
     word_in ws w f ≡ word_in ws w g
 word-agree f g ws w same = ap (λ vs. value_at vs w) (values-agree f g ws same)
 
--- what a node reads where the run comes to it
+-- what a node reads if the run comes to it
 pub reads : (f : Assignment) (b : Builder) (cs : List Choice) (o : Operand)
     → operand_value (traced_of f b cs).code o ≡ operand_at (values_of f b.words) b.vars o
 reads f b cs (operand.Const z) = refl

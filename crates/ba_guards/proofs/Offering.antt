@@ -192,7 +192,7 @@ no-value (z ∷ zs) h = absurd (omega (arith, eqb-true (length (z ∷ zs)) 0 h))
 pub draws-nothing : (ws : List WordOp) → are_words ws ≡ true → Draws ws ws [] (λ zs. length zs == 0)
 draws-nothing ws fit = draws-none (λ zs. length zs == 0) ws fit refl no-value
 
--- ONE LIST behind another
+-- ONE LIST after another
 
 pub record IsBoth (p q : List ℤ → Bool) (zs : List ℤ) : Type 0 where
   pub first : List ℤ

@@ -80,7 +80,7 @@ module _ (d : Declared) (b0 b1 : Builder) (fits : Fits d b0) (place : Place) (ke
     written = fits.written;
   })
 
-  -- where the run stands then
+  -- where the run is then
   pub place-stands : (f : Assignment) → snapshot f b1
       ≡ snap (on_at f b0) (vars_at f b0) (rest_at f b0) (cells_at f b0) (list_at f b0 ++ map (λ (v :
       Visit). v.place) (first f))
@@ -196,7 +196,7 @@ module _ (d : Declared) (bp b1 b2 : Builder) (fits : Fits d bp) (place : Place) 
       ∙ sym (ap (λ b. cond b (written r (came f cs)) (picked d take (zs f) (came f cs))) is_k)
   by-choice f r cs false false is_r is_k right = absurd (let clash : false ≡ true = right refl in cc)
 
-  -- the same from where the run stands
+  -- the same from where the run is
   pick-goes : (f : Assignment) (r : Relaxes) (cs : List Choice) → on_at f b0 ≡ true →
       (is_relaxed r place ≡ false → k f ≡ true)
       → continued (labels_of bp.exits) (pick r) (snapshot f b0) (cond (is_relaxed r place) (choice_here f ∷
@@ -219,7 +219,7 @@ module _ (d : Declared) (bp b1 b2 : Builder) (fits : Fits d bp) (place : Place) 
   keep-test true ys = refl
   keep-test false ys = refl
 
-  -- where the run doesn't come here
+  -- if the run doesn't come here
   off-all : (f : Assignment) → on_at f b0 ≡ false
       → (log f ≡ []) × (m.good f ≡ true) × (snapshot f b2 ≡ snapshot f b0)
   off-all f off =

@@ -6,7 +6,7 @@ use Rattle.std.proofs.lemmas.Int.{ints}
 use native.Mathlib.Nat.{mod-eq_of_lt}
 use Rattle.std.specs.Prelude.{int_le, int_lt, unsigned_abs}
 use Rattle.ba_cells.proofs.Places.{read-within}
-use Rattle.ba_cells.specs.Cells.{place_read}
+use Rattle.ba_cells.specs.Cells.{index_read}
 use Rattle.ba_numbers.proofs.Conversions.{converted_congruent, converted_only, converted_own, truth_converted}
 use Rattle.ba_numbers.specs.Numbers.{IsCongruent, converted, is_in, low_word, truth, value_of, width_of}
 use Rattle.ba_numbers.specs.declared.numbers.BinOp.TheVariants.{Lt}
@@ -146,5 +146,5 @@ pub read-index : (zs : List ℤ) (i : ℤ) → is_index (length zs) i ≡ true �
 read-index zs i h few =
     let low = low-index (length zs) i h few in
     let small : low_word i % 256 ≡ low_word i = mod-eq_of_lt (omega (arith, low.0, low.1, few)) in
-    ap (λ k. get_or zs (place_read (length zs) k) (pos 0)) (small ∙ low.0)
+    ap (λ k. get_or zs (index_read (length zs) k) (pos 0)) (small ∙ low.0)
     ∙ ap (λ k. get_or zs k (pos 0)) (read-within (length zs) (unsigned_abs i) low.1)

@@ -80,7 +80,7 @@ module _ (labels : List ℕ) (label : ℕ) (some : 0 < length labels) where
     after-cond b = refl
   after-scope (Err h, t) = refl
 
-  -- a run that stands before the block goes on behind it
+  -- a run that is before the block goes on after it
   scope-continued : (body : TracedExecution) (status : Status) (arrays : ℕ →
       List ℤ) (places : List Place) (cs : List Choice)
       → ((k : ℕ) (m : ℕ → ℤ) → status ≡ left k m → k < length labels)
@@ -374,7 +374,7 @@ module _ (d : Declared) (label : ℕ) (b0 b1 b2 b3 : Builder) (e : Exit) (p : Pa
       (either-off (on_at f b0) (vars_at f b0) (rest_at f b0) k v is) in
       omega (arith, h, length-map b0.exits (λ (e : Exit). e.label))
 
-  -- the part with the block around it, from where the run stands
+  -- the part with the block around it, from where the run is
   scope-goes : (r : Relaxes) (f : Assignment) (cs : List Choice)
       → continued (labels_of b0.exits) (scoped label (p f r)) (snapshot f b0) cs
       ≡ closed_further count (continued (labels_of b1.exits) (p f r) (snapshot f b1) cs)
@@ -515,7 +515,7 @@ module _ (d : Declared) (label : ℕ) (b0 b1 : Builder) (fits : Fits d b0) (l : 
   zero-live : (f : Assignment) → is_nonzero (value_at (values_of f b1.words) 0) ≡ false
   zero-live f = zero-off d mid f mid-fits
 
-  -- the exits, where the run came here and where it didn't
+  -- the exits, if the run came here and if it didn't
   left-taken : (f : Assignment) → was_on f ≡ true →
       left_from (values_of f b1.words) 0 (slice_set b0.exits at new_exit)
       ≡ left at (variables_at (values_of f b1.words) b0.vars)

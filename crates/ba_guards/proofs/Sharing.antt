@@ -111,7 +111,7 @@ same-entry y z ls vs us (Read a x) same fits =
     let index = value-named ls vs us x same all.1 in
     λ i. element_read (array i) (index i) ∷ []
 
--- what it has where it stands is what it would have behind the list
+-- what it has where it is is what it would have after the list
 value-stands : (f : Assignment) (ws : List WordOp) (w : ℕ) (e : Expression) → are_words ws ≡ true
     → slice_get ws w ≡ Some (entry e) → value_at (values_of f ws) w
     ≡ get_or (entry_of (f (length ws)) (values_of f ws) (entry e)) 0 (pos 0)

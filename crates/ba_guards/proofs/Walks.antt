@@ -59,7 +59,7 @@ nodes-more d ns n old mid new first second =
 
 -- BRANCHES
 
--- where the sides of a branch begin, behind more words
+-- where the sides of a branch begin, after more words
 pub fork-sides : (d : Declared) (which : ℕ) (b0 b1 b2 b3 : Builder) (ws more : List WordOp) (p : Part)
     (after_live : ℕ) (after_vars : List ℕ)
     → Fits d b0 → which < length b0.words → Opens b0 b1 which → Fits d b1 → Means d p b1 b2 →
@@ -233,7 +233,7 @@ one-arm d old b1 new w value when taken other fits fit same word constant side =
     if-arm d old b1 new w when taken other fits fit same word
     (λ fits1 below. one-side d b1 new w value (λ f. taken) (λ f. other) constant (side fits1))
 
--- where the run never comes to a part
+-- if the run never comes to a part
 
 pub never-means : (d : Declared) (part : Part) (b : Builder) → Fits d b
     → ((f : Assignment) → is_live (values_of f b.words) b ≡ false) → Means d part b b

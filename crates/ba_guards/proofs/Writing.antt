@@ -43,7 +43,7 @@ agree-at ns i d w old cur new within agree is k h =
     agree k h ∙ sym (get_or-set_other cur (get_or ns i d) k w 0 (among-at ns i d k within h))
     ∙ ap (λ vs. get_or vs k 0) (sym is)
 
--- what stands twice counts once
+-- what occurs twice counts once
 once : (a b rest : Bool) → a ≡ b → (b || rest) ≡ (b || (a || rest))
 once true true rest e = refl
 once true false rest e = absurd (cc)
@@ -121,7 +121,7 @@ frame-at [] i e found = absurd (let f : None ≡ Some e = found in cc)
 frame-at (y ∷ es) zero e found = let is : y ≡ e = cc in ap (λ (e : Exit). Some (e.since, e.base)) is
 frame-at (y ∷ es) (suc i) e found = frame-at es i e found
 
--- the variables are where they were when the block of an exit began, but for what was written since
+-- the variables are where they were when the block of an exit began, except for what was written since
 pub exit-since : (w vars : List ℕ) (es : List Exit) (i : ℕ) (e : Exit) → AreSince w vars (frames_of es)
     → slice_get es i ≡ Some e → AgreeBut (drop e.since w) e.base vars
 exit-since w vars es i e all found = (all i (e.since, e.base) (frame-at es i e found)).agrees
@@ -195,7 +195,7 @@ gathers-writes b0 b4 b5 since before more written at was frames g = record {
   frames = frames;
 }
 
--- what was written since a moment, and at another way, gathered behind both ways
+-- what was written since a moment, and at another way, gathered after both ways
 module _ (old mid new : Builder) (since : ℕ) (before way written numbers : List ℕ)
     (among : (n : ℕ) → is_among n numbers ≡ is_among n (drop since old.written ++ written))
     (there : AgreeBut written before way) (here : AgreeBut (drop since old.written) before old.vars) where

@@ -2,7 +2,7 @@
 
 use Rattle.std.specs.Prelude.{◌≡◌, ◌<◌, ℕ, List, [], ◌∷◌, length}
 
--- lists of this many words, and at the end one of fewer
+-- chunks of this many words, the last one of fewer
 abbrev pub AreChunks : ℕ → List (List ℕ) → Type 0
 AreChunks size [] = ⊥
 AreChunks size (c ∷ []) = length c < size

@@ -1,4 +1,4 @@
--- What a list of words says of a program without calls and loops and its input.
+-- What a word list says of a loop-free program and its input.
 
 use Rattle.std.specs.Prelude.{◌≡◌, ℕ, ℤ, Bool, true, ◌↔◌, List, map}
 use Rattle.std.specs.List.{list_all}
@@ -19,22 +19,23 @@ use Rattle.ba_wordlist.specs.declared.words.WordList.{WordList}
 abbrev pub are_word_values : List (List ℤ) → Bool
 are_word_values values = list_all (list_all is_word_value) values
 
--- GOOD RUNS, where these executions may be relaxed
+-- GOOD RUNS, if these executions may be relaxed
 
+-- the run of the tree with these choices is done
 abbrev pub IsGood : BoundTree → Input → ℕ → Relaxes → List Choice → Type 0
 IsGood tree input turns r choices = outcome_of_code (code_of_bound tree) input turns r choices ≡ Done
 
--- an assignment that holds, with Keep at each place that may not be relaxed
+-- an assignment that meets the requirements, with Keep at each place that may not be relaxed
 pub record Chosen (list : WordList) (r : Relaxes) (choices : List Choice) : Type 0 where
   pub by : Assignment
   pub holds : holds by list ≡ true
   pub kept : are_kept r (visits_of by list) ≡ true
   pub spells : chosen r (visits_of by list) ≡ choices
 
--- Whatever may be relaxed: an assignment with Keep at each place that may not be holds exactly where the run with
--- the choices at the other places is good; each good run has the choices of such an assignment; and where an
--- assignment holds, the places whose guard isn't 0 are, in their order, those that the run with the choices that
--- it spells comes to.
+-- What a word list says, whatever may be relaxed. Take an assignment with Keep at each place that may not be
+-- relaxed. It meets the requirements exactly if the run with its choices at the other places is good. The
+-- places whose guard isn't 0 are then, in order, those that the run comes to. Each good run has the choices
+-- of such an assignment.
 pub record IsGuarded (tree : BoundTree) (input : Input) (list : WordList) : Type 0 where
   pub exactly : (turns : ℕ) (r : Relaxes) (f : Assignment) → are_kept r (visits_of f list) ≡ true
       → (holds f list ≡ true) ↔ IsGood tree input turns r (chosen r (visits_of f list))

@@ -1,4 +1,4 @@
--- What is added to a list of words, and what it then says.
+-- What is added to a word list, and what the list then says.
 
 use Rattle.std.specs.Prelude.{◌≡◌, ◌⊎◌, slice_set, not, [], ◌∷◌, ℕ, ◌<◌, ◌==◌, ℤ, pos, Bool, true, false, ◌&&◌, ◌||◌, cond, Some, Ok, Err, List, ◌++◌, map, length, drop, take, slice_get, slice_index_or}
 use Rattle.std.specs.List.{list_all}
@@ -36,19 +36,20 @@ use Rattle.ba_wordlist.specs.declared.words.WordOp.TheVariants.{Const}
 
 -- WORDS
 
--- what an entry has
+-- the value of an entry
 abbrev pub word_in : List WordOp → ℕ → Assignment → ℤ
 word_in ws w f = value_at (values_of f ws) w
 
+-- the elements of an entry of an assignment
 abbrev pub elements_in : List WordOp → ℕ → Assignment → List ℤ
 elements_in ws w f = elements_at (values_of f ws) w
 
--- an entry was there, or it was added
+-- an entry was there, or was added
 abbrev pub StandsAt : List WordOp → List WordOp → ℕ → WordOp → Type 0
 StandsAt old new word op = ((new ≡ old) × (slice_get old word ≡ Some op))
     ⊎ ((word ≡ length old) × (new ≡ old ++ op ∷ []))
 
--- words were added, and this one has this value
+-- entries were added, and this word has this value
 pub record Emits (old new : List WordOp) (word : ℕ) (value : Assignment → ℤ) : Type 0 where
   pub more : List WordOp
   pub grown : new ≡ old ++ more
@@ -56,7 +57,7 @@ pub record Emits (old new : List WordOp) (word : ℕ) (value : Assignment → �
   pub name : word < length new
   pub has : (f : Assignment) → value_at (values_of f new) word ≡ value f
 
--- the same for an array of so many elements
+-- the same for an array of this many elements
 pub record EmitsArray (old new : List WordOp) (word count : ℕ) (elements : Assignment → List ℤ) :
     Type 0 where
   pub more : List WordOp
@@ -66,28 +67,34 @@ pub record EmitsArray (old new : List WordOp) (word count : ℕ) (elements : Ass
   pub long : slice_index_or (lengths_of new) word 1 ≡ count
   pub has : (f : Assignment) → elements_at (values_of f new) word ≡ elements f
 
+-- the value of an operand, by the words of variables
 abbrev pub operand_at : List (List ℤ) → List ℕ → Operand → ℤ
 operand_at vs vars (operand.Const z) = z
 operand_at vs vars (operand.Var n) = variables_at vs vars n
 
 -- THE BUILDER
 
+-- an exit has words of this list, one for each variable
 abbrev pub fits_exit : ℕ → ℕ → Exit → Bool
 fits_exit count vars e = is_name count e.live && are_names count e.vars && (length e.vars == vars)
 
--- no exit is taken, and at most one is
+-- at most one exit is taken; no exit is
 
+-- no exit is taken
 abbrev pub are_off : List (List ℤ) → List Exit → Bool
 are_off vs [] = true
 are_off vs (e ∷ es) = not (is_nonzero (value_at vs e.live)) && are_off vs es
 
+-- at most one exit is taken
 abbrev pub is_single : List (List ℤ) → List Exit → Bool
 is_single vs [] = true
 is_single vs (e ∷ es) = cond (is_nonzero (value_at vs e.live)) (are_off vs es) (is_single vs es)
 
--- all that is named is there, words 0 and 1 are those numbers, values of choices show their types, a run
--- that comes to the end of the list has left no block, none has left two, and what was written since a
--- block began is known
+-- What holds of a builder:
+-- - all numbers name entries, and words 0 and 1 are those numbers
+-- - values of choices show their types
+-- - a run that comes to the end of the list has left no block, and none has left two
+-- - the variables written since a block began are known
 pub record Fits (d : Declared) (b : Builder) : Type 0 where
   pub words : are_words b.words ≡ true
   pub zero : slice_get b.words 0 ≡ Some (Const (pos 0))
@@ -118,13 +125,13 @@ pub record Writes (old new : Builder) : Type 0 where
   pub kept : AgreeBut set old.vars new.vars
   pub frames : frames_of new.exits ≡ frames_of old.exits
 
--- of what was written since a moment, these have other words than then
+-- of the variables written since a moment, these have other words than then
 pub record Gathers (since : ℕ) (before : List ℕ) (old new : Builder) : Type 0 where
   pub numbers : List ℕ
   pub written : new.written ≡ take since old.written ++ numbers
   pub kept : AgreeBut numbers before new.vars
 
--- words were added, and the blocks around are the same
+-- entries were added, and the blocks around are the same
 pub record Extends (old new : Builder) : Type 0 where
   pub more : List WordOp
   pub words : new.words ≡ old.words ++ more
@@ -133,11 +140,11 @@ pub record Extends (old new : Builder) : Type 0 where
 
 -- PARTS OF A RUN
 
--- what a part does may depend on what an assignment gives to choices
+-- a part may depend on the values that an assignment gives to choices
 abbrev pub Part : Type 0
 Part = Assignment → Relaxes → TracedExecution
 
--- an assignment that differs from another only at new words, and that spells choices
+-- an assignment that differs from another only at new words, and spells choices
 pub record Found (r : Relaxes) (words : ℕ) (f : Assignment) (log : Assignment → List Visit)
     (choices rest : List Choice) : Type 0 where
   pub by : Assignment
@@ -145,9 +152,9 @@ pub record Found (r : Relaxes) (words : ℕ) (f : Assignment) (log : Assignment 
   pub kept : are_kept r (log by) ≡ true
   pub spells : chosen r (log by) ++ rest ≡ choices
 
--- The list says what a part does: under each assignment the part, with the choices that it spells, takes
--- the run from where it stood to where it stands, and ends badly exactly where a new requirement isn't met;
--- and each run of the part that doesn't is one of these.
+-- The list says what a part does. Under each assignment the part, with the choices that it spells, takes the
+-- run from one snapshot to the next. The run ends badly exactly if a new requirement isn't met. Each run of
+-- the part that doesn't end badly is given by such an assignment.
 pub record Means (d : Declared) (part : Part) (old new : Builder) : Type 0 where
   pub extends : Extends old new
   pub fits : Fits d new
@@ -163,15 +170,16 @@ pub record Means (d : Declared) (part : Part) (old new : Builder) : Type 0 where
       → continued (labels_of old.exits) (part f r) (snapshot f old) choices ≡ Some (s, rest)
       → Found r (length old.words) f log choices rest
 
--- a part that ends the run badly where a test fails
+-- a part that ends the run badly if a test fails
 abbrev pub checked_by : Bool → Halt → TracedExecution
 checked_by true h s = (Ok Next, s)
 checked_by false h s = (Err h, s)
 
+-- the run goes on if the test holds, and ends so otherwise
 abbrev pub checked : (CodeState → Bool) → Halt → TracedExecution
 checked test h s = checked_by (test s.code) h s
 
--- a requirement was added: where the run comes to it, it is met where this value isn't 0
+-- a requirement was added: it is met if the run doesn't come to it, or if this value isn't 0
 pub record Demands (d : Declared) (old new : Builder) (value : Assignment → ℤ) : Type 0 where
   pub extends : Extends old new
   pub same : new ≡ record old { words = new.words; require = new.require }
@@ -190,11 +198,11 @@ pub record Checks (d : Declared) (old new : Builder) (halt : Halt) (test : Assig
   pub same : new ≡ record old { words = new.words; require = new.require }
   pub means : Means d (λ f r. checked (λ c. test f) halt) old new
 
--- a binary operator has a value but for a divisor of 0
+-- a binary operator has a value except for a divisor of 0
 abbrev pub has_value : BinOp → CType → ℤ → Bool
 has_value op t b = not (divides op && int_eq (converted t b) (pos 0))
 
--- what guard is given of nodes
+-- what holds of the nodes to be guarded
 pub record AreFit (d : Declared) (nodes : List Node) : Type 0 where
   pub labels : List ℕ
   pub fit : are_inside labels (map (fits_inside d) nodes) ≡ true
@@ -202,7 +210,7 @@ pub record AreFit (d : Declared) (nodes : List Node) : Type 0 where
 
 -- BRANCHES
 
--- variables of one list of words where a condition holds, and else of another
+-- variables have the words of one list if a condition holds, and else of another
 pub record Merges (old new : List WordOp) (count : ℕ) (which : Assignment → Bool)
     (yeses nos merged : List ℕ) : Type 0 where
   pub more : List WordOp
@@ -213,11 +221,11 @@ pub record Merges (old new : List WordOp) (count : ℕ) (which : Assignment → 
   pub has : (f : Assignment) → variables_at (values_of f new) merged
       ≡ cond (which f) (variables_at (values_of f old) yeses) (variables_at (values_of f old) nos)
 
+-- the word is not 0 under an assignment
 abbrev pub holds_in : List WordOp → ℕ → Assignment → Bool
 holds_in ws w f = is_nonzero (word_in ws w f)
 
--- where the run stands behind two ways, of which it takes at most one: its word, and the words of its
--- variables
+-- the run after two ways, of which it takes at most one: the path condition, and the words of the variables
 pub record EitherWay (old new : List WordOp) (count first_live : ℕ) (first_vars : List ℕ)
     (second_live : ℕ) (second_vars : List ℕ) (live : ℕ) (vars : List ℕ) : Type 0 where
   pub more : List WordOp
@@ -234,13 +242,13 @@ pub record EitherWay (old new : List WordOp) (count first_live : ℕ) (first_var
       → holds_in old first_live f ≡ false → holds_in old second_live f ≡ true
       → variables_at (values_of f new) vars ≡ variables_at (values_of f old) second_vars
 
--- the one side begins, where a word isn't 0
+-- the first side begins: it is taken if a word isn't 0
 pub record Opens (old new : Builder) (which : ℕ) : Type 0 where
   pub same : new ≡ record old { words = new.words; live = new.live }
   pub live : Emits old.words new.words new.live
       (λ f. cond (holds_in old.words which f) (word_in old.words old.live f) (pos 0))
 
--- the other side begins behind the one, where the run stood before both
+-- the second side begins, where the run was before the first
 pub record Switches (since was_live : ℕ) (was_vars : List ℕ) (old new : Builder) (which : ℕ) :
     Type 0 where
   pub same : new ≡ record old {
@@ -252,7 +260,7 @@ pub record Switches (since was_live : ℕ) (was_vars : List ℕ) (old new : Buil
   pub live : Emits old.words new.words new.live
       (λ f. cond (holds_in old.words which f) (pos 0) (word_in old.words was_live f))
 
--- what is kept of a branch where a side begins
+-- the record of a branch when a side begins
 abbrev pub fork_at : ℕ → ℕ → ℕ → ℕ → List ℕ → Fork
 fork_at which since first live vars = record {
   which = which;
@@ -261,6 +269,7 @@ fork_at which since first live vars = record {
   before = record { live = live; vars = vars };
 }
 
+-- the two sides of a branch, when the second one has ended
 abbrev pub sides_at : Fork → ℕ → ℕ → List ℕ → List ℕ → Sides
 sides_at fork second live vars written = record {
   which = fork.which;
@@ -273,7 +282,7 @@ sides_at fork second live vars written = record {
   written = drop fork.since written;
 }
 
--- the run comes to one side of a branch where it comes to the branch
+-- the run comes to exactly one side of a branch if it comes to the branch
 pub record AreSides (ws : List WordOp) (s : Sides) : Type 0 where
   pub condition : s.which < length ws
   pub came : s.live < length ws
@@ -284,7 +293,7 @@ pub record AreSides (ws : List WordOp) (s : Sides) : Type 0 where
   pub second : (f : Assignment)
       → holds_in ws s.second f ≡ (not (holds_in ws s.which f) && holds_in ws s.live f)
 
--- both sides end, the one where the run stood after it
+-- both sides end; `yes_live` and `yes_vars` tell the run after the first
 pub record Joins (since : ℕ) (before : List ℕ) (yes_live : ℕ) (yes_vars : List ℕ)
     (old new : Builder) : Type 0 where
   pub same : new ≡ record old {
@@ -312,7 +321,7 @@ pub record Scopes (old new : Builder) (label : ℕ) : Type 0 where
     }) ∷ [];
   }
 
--- and ends: the run comes to the end of the list also where it has left the block
+-- a block ends: a run that left the block comes to the end of the list too
 pub record Closes (old new : Builder) (exit : Exit) : Type 0 where
   pub same : new ≡ record old {
     words = new.words;
@@ -343,6 +352,7 @@ pub record Leaving (old new : Builder) (label : ℕ) : Type 0 where
   pub ways : EitherWay old.words new.words (length exit.vars) old.live old.vars exit.live exit.vars
       new_live new_vars
 
+-- a node fits inside blocks of some labels, and has no loop
 pub record IsFit (d : Declared) (n : Node) : Type 0 where
   pub labels : List ℕ
   pub fit : fits_inside d n labels ≡ true
@@ -354,6 +364,7 @@ pub record IsFit (d : Declared) (n : Node) : Type 0 where
 abbrev pub picked : Declared → Take → List ℤ → TracedExecution
 picked d take zs = untraced (λ c. if_taken (taken d.arrays take zs c) c)
 
+-- the values of words under an assignment
 abbrev pub values_in : List WordOp → List ℕ → Assignment → List ℤ
 values_in ws values f = map (value_at (values_of f ws)) values
 
@@ -368,12 +379,13 @@ pub record Places (old new : Builder) (place : Place) (keep : ℕ) (values : Lis
         ++ (record { place = place; guard = old.live; keep = keep; values = values }) ∷ [];
   }
 
--- an assignment of words behind others, with Keep or with these values
+-- an assignment of words after others, with Keep or with these values
 pub record Keeping (ws : List WordOp) (words keep : ℕ) (f : Assignment) : Type 0 where
   pub by : Assignment
   pub agrees : (n : ℕ) → n < words → f n ≡ by n
   pub kept : holds_in ws keep by ≡ true
 
+-- an assignment, as `f` on the first words, that takes these values at an execution
 pub record Taking (ws : List WordOp) (words keep : ℕ) (values : List ℕ) (zs : List ℤ)
     (f : Assignment) : Type 0 where
   pub by : Assignment
@@ -381,14 +393,14 @@ pub record Taking (ws : List WordOp) (words keep : ℕ) (values : List ℕ) (zs 
   pub kept : holds_in ws keep by ≡ false
   pub spells : values_in ws values by ≡ zs
 
--- words behind others can be each choice
+-- the new words can be each choice
 pub record Offers (d : Declared) (take : Take) (ws : List WordOp) (words keep : ℕ)
     (values : List ℕ) : Type 0 where
   pub keeps : (f : Assignment) → Keeping ws words keep f
   pub takes : (f : Assignment) (zs : List ℤ) (c t : CodeState) → HasLengths d c
       → taken d.arrays take zs c ≡ Some t → Taking ws words keep values zs f
 
--- an assignment of words behind others, with these values
+-- an assignment of words after others, with these values
 pub record Drawn (ws : List WordOp) (words : ℕ) (values : List ℕ) (zs : List ℤ) (f : Assignment) :
     Type 0 where
   pub by : Assignment
@@ -420,24 +432,28 @@ pub record ReadsAll (d : Declared) (old new : Builder) (words : List ℕ) (value
   pub has : (f : Assignment) → values_in new.words words f
       ≡ map (operand_at (values_of f old.words) old.vars) values
 
--- values of a choice are right, where an index may be any byte
+-- the values of a choice pass a test, where an index may be any byte
 abbrev pub is_one : (ℤ → Bool) → List ℤ → Bool
 is_one fits [] = false
 is_one fits (z ∷ []) = fits z
 is_one fits (z ∷ y ∷ zs) = false
 
+-- an index in the range of U8, and a value of the type
 abbrev pub is_cell : CType → List ℤ → Bool
 is_cell t [] = false
 is_cell t (i ∷ []) = false
 is_cell t (i ∷ z ∷ []) = is_in U8 i && is_in t z
 is_cell t (i ∷ z ∷ y ∷ zs) = false
 
+-- so many values of the type
 abbrev pub are_of : CType → ℕ → List ℤ → Bool
 are_of t count zs = (length zs == count) && list_all (is_in t) zs
 
+-- the value is 0 or 1
 abbrev pub is_zero_or_one : ℤ → Bool
 is_zero_or_one z = int_eq z (pos 0) || int_eq z (pos 1)
 
+-- the values are those that a free value of this form may have
 abbrev pub are_right : Declared → Take → List ℤ → Bool
 are_right d (kind.Value to t) zs = is_one (is_in t) zs
 are_right d (kind.Truth to) zs = is_one is_zero_or_one zs
@@ -446,7 +462,7 @@ are_right d (kind.Cells array) zs =
     are_of (info_at d.arrays array).t (info_at d.arrays array).len zs
 are_right d kind.Nothing zs = length zs == 0
 
--- words were added that can be each choice of a statement: Keep, or values that are right
+-- words were added that can be each choice of a statement: Keep, or values that fit
 pub record Offered (d : Declared) (take : Take) (old new : List WordOp) (keep : ℕ)
     (values : List ℕ) : Type 0 where
   pub more : List WordOp

@@ -1,4 +1,4 @@
--- Where a list begins that follows a run.
+-- The list at the start of a run.
 
 use Rattle.std.specs.Prelude.{◌≡◌, ℕ, pos, true, List, [], ◌++◌, length, map, replicate, slice_index_or}
 use Rattle.ba_code.specs.Facts.{Declared}
@@ -12,7 +12,7 @@ use Rattle.ba_wordlist.specs.Facts.{are_names, are_words, lengths_of}
 use Rattle.ba_wordlist.specs.Meaning.{Assignment}
 use Rattle.ba_wordlist.specs.declared.words.WordOp.{WordOp}
 
--- a version of each array was added, whose elements are 0
+-- a state of each array was added, whose elements are 0
 pub record AreZero (old new : List WordOp) (versions : List ℕ) (infos : List ArrayInfo) :
     Type 0 where
   pub more : List WordOp
@@ -24,7 +24,7 @@ pub record AreZero (old new : List WordOp) (versions : List ℕ) (infos : List A
   pub has : (f : Assignment) → map (λ w. elements_in new w f) versions
       ≡ map (λ (i : ArrayInfo). replicate i.len (pos 0)) infos
 
--- the run stands here, has come to no place, and nothing was required of it
+-- the run is at the end of the list, has come to no place, and has no requirement yet
 pub record Starts (d : Declared) (b : Builder) (s : CodeState) : Type 0 where
   pub fits : Fits d b
   pub stands : (f : Assignment) → snapshot f b ≡ record {

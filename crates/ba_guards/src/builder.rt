@@ -1,4 +1,4 @@
-//! The list that is made, and where the run stands at its end.
+//! The builder of a word list, and where the run is at the list's end.
 
 ghost use Rattle.std.specs.Prelude.{◌≡◌, ◌<◌, ◌++◌, ◌∷◌, [], ℕ, pos, true, IfOk, OnOk, Some, drop, length, slice_get, slice_set};
 ghost use Rattle.ba_code.specs.Facts.{Declared, is_operand};
@@ -21,9 +21,10 @@ use ba_wordlist::words::PlaceWords;
 use std::alloc::{AllocError, Global};
 use std::mem;
 
-/// What was made so far, and where the run stands then: it comes to the end of the list where the word `live` isn't 0, with the variables
-/// at `vars`. The arrays are at `arrays`, whether it does or not. The variables that were written are at `written`, in their order, and
-/// those of a branch or block that ended once each.
+/// The list so far, and where the run is at its end. The run comes to the end if the word `live` isn't 0,
+/// with the variables at `vars`. The arrays are at `arrays`, whether it does or not. `written` has the
+/// numbers of the variables that were written, in order. Those of a branch or block that ended occur once
+/// each.
 #[derive(Drop)]
 pub struct Builder {
     pub words: Words,
@@ -36,15 +37,17 @@ pub struct Builder {
     pub exits: Exits,
 }
 
-/// Where the run stood at some moment: there where `live` isn't 0, with the variables at `vars`.
+/// Where the run was at some moment: it came there if `live` isn't 0, with the variables at `vars`.
 #[derive(Drop)]
 pub struct Branch {
     pub live: u32,
     pub vars: Variables,
 }
 
-/// A branch whose first side was begun: the word of its condition, where the run stood before, how many variables were written by then,
-/// and the word `first` of whether it came to that side.
+/// A branch whose first side was begun:
+/// - the word of its condition
+/// - where the run was before, and how many variables had been written then
+/// - the path condition `first` of that side
 #[derive(Drop)]
 pub struct Fork {
     pub which: u32,
@@ -53,8 +56,11 @@ pub struct Fork {
     pub before: Branch,
 }
 
-/// A branch whose second side was begun: the words of its condition and of whether the run came to it, to the first side and to the second,
-/// the variables before it, how many were written by then, where the run stood after the first side, and what that one wrote.
+/// A branch whose second side was begun:
+/// - the word of its condition
+/// - the path conditions of the branch, of its first side and of its second
+/// - the variables before it, and how many had been written then
+/// - where the run was after the first side, and what that side wrote
 #[derive(Drop)]
 pub struct Sides {
     pub which: u32,
@@ -68,7 +74,7 @@ pub struct Sides {
 }
 
 impl Builder {
-    /// The word of what a node reads.
+    /// The word of an operand.
     pub fn operand(&mut self, operand: Operand) -> Result<u32, AllocError>
         ensures same { IfOk result (λ word. self.new ≡ record self.old { words = self.new.words }) }
         ensures word { IfOk result (λ word. (d : Declared) → Fits d self.old
@@ -97,7 +103,7 @@ impl Builder {
         Ok(())
     }
 
-    /// Requires a word to be other than 0, where the run comes to the end of the list.
+    /// Requires a word to be other than 0, if the run comes to the end of the list.
     pub fn demand(&mut self, condition: u32) -> Result<(), AllocError>
         ensures { OnOk result ((d : Declared) → Fits d self.old → condition < length self.old.words
             → Demands d self.old self.new (word_in self.old.words condition)) }
@@ -110,7 +116,7 @@ impl Builder {
         Ok(())
     }
 
-    /// Begins the side of a branch that is taken where a word isn't 0.
+    /// Begins the first side of a branch, which is taken if a word isn't 0.
     #[inline(never)]
     pub fn open(&mut self, alloc: Global, which: u32) -> Result<Box<Fork>, AllocError>
         ensures fork { IfOk result
@@ -137,7 +143,7 @@ impl Builder {
         Ok(fork)
     }
 
-    /// Begins the other side, from where the run stood before.
+    /// Begins the second side, from where the run was before the branch.
     #[inline(never)]
     pub fn switch(&mut self, alloc: Global, fork: Box<Fork>) -> Result<Box<Sides>, AllocError>
         ensures sides { IfOk result
@@ -179,7 +185,7 @@ impl Builder {
         Ok(sides)
     }
 
-    /// Ends both sides of a branch. Where neither side leaves a block, the run comes here where it came to the branch.
+    /// Ends both sides of a branch. If neither side leaves a block, the path condition is that of the branch.
     #[inline(never)]
     pub fn join(&mut self, alloc: Global, sides: Box<Sides>) -> Result<(), AllocError>
         ensures { OnOk result ((d : Declared) → Fits d self.old
@@ -199,7 +205,7 @@ impl Builder {
         Ok(())
     }
 
-    /// Goes on behind both sides, whose variables have the same words but for these.
+    /// Goes on after both sides, whose variables have the same words except for these.
     fn join_sides(
         &mut self,
         alloc: Global,
@@ -245,7 +251,7 @@ impl Builder {
         Ok(())
     }
 
-    /// Of what was written since a moment, which are these variables at most, leaves those that have other words than then.
+    /// Of the variables written since a moment, keeps in `written` those that have other words than then.
     fn write_since(
         &mut self,
         alloc: Global,
@@ -330,7 +336,8 @@ impl Builder {
         Ok(())
     }
 
-    /// Adds an execution of a statement that may be relaxed, where the run stands, with the words of its choice.
+    /// Adds an execution of a statement that may be relaxed at the end of the list, with the words of its
+    /// choice.
     #[inline(never)]
     pub fn add_place(
         &mut self,
@@ -355,10 +362,10 @@ impl Builder {
     }
 }
 
-/// Where the run stands behind two ways, of which it takes at most one: `live` and `vars` are those of the other way, and then of both. All
-/// variables but these have the same word on both.
+/// The run after two ways, of which it takes at most one. `live` and `vars` are those of the other way
+/// before, and of both after. All variables but these have the same word on both ways.
 ///
-/// The one error is want of memory.
+/// The only error is out of memory.
 #[inline(never)]
 fn either_way(
     alloc: Global,

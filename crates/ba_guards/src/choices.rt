@@ -15,7 +15,7 @@ use ba_items::Items;
 use ba_numbers::numbers::CType;
 use std::alloc::{AllocError, Global};
 
-/// The words of a choice: it is Keep where `keep` isn't 0, and else its values are those of the words `values`.
+/// The words of a choice: it is Keep if `keep` isn't 0; else the words `values` have its values.
 #[derive(Drop)]
 pub struct Offer {
     pub keep: u32,
@@ -24,7 +24,7 @@ pub struct Offer {
 
 /// Words that can be each choice of a statement.
 ///
-/// The one error is want of memory.
+/// The only error is out of memory.
 #[inline(never)]
 pub fn offered(
     alloc: Global,
@@ -42,7 +42,7 @@ pub fn offered(
     Ok(Offer { keep, values })
 }
 
-/// Words that can be the values of each choice of a statement that isn't Keep.
+/// Words that can be the values of each choice of a statement other than Keep.
 fn any_values(
     alloc: Global,
     arrays: &[ArrayInfo],
@@ -79,7 +79,7 @@ fn any_values(
     }
 }
 
-/// So many words that may be any number of a type.
+/// `count` words that may be any number of a type.
 fn several(alloc: Global, words: &mut Words, t: CType, count: u32) -> Result<Items<u32>, AllocError>
     ensures { IfOk result (λ values. are_words words.old ≡ true
         → Draws words.old words.new values (are_of t count)) }

@@ -9,8 +9,9 @@ use crate::variables::Variables;
 use std::alloc::{AllocError, Global};
 use std::marker::Model;
 
-/// The exit of a block: where `live` isn't 0 the run has left it, with the variables at `vars`. The block began where the variables were
-/// at `base`, and so many of them had been written; at the exit all are at `base` but for those in `written`.
+/// The exit of a block. If `live` isn't 0 the run has left the block, with the variables at `vars`. When the
+/// block began the variables were at `base`, and `since` of them had been written. At the exit all are at
+/// `base` except for those in `written`.
 #[derive(Drop)]
 pub struct Exit {
     pub label: u32,
@@ -21,7 +22,7 @@ pub struct Exit {
     pub written: Names,
 }
 
-/// The exits of blocks, the outermost first. Contracts see their list.
+/// The exits of blocks, the outermost first. A contract sees their list.
 #[derive(Drop)]
 pub struct Exits {
     items: Vec<Exit>,
@@ -37,7 +38,7 @@ impl Model for Exits {
 }
 
 impl Exits {
-    /// No exit. It takes no memory.
+    /// No exits. It takes no memory.
     pub fn new(alloc: Global) -> Exits
         ensures { result ≡ [] }
     {
@@ -46,14 +47,14 @@ impl Exits {
         }
     }
 
-    /// The number of the exit of the innermost block with this label, and 0 for none.
+    /// The index of the exit of the innermost block with this label, and 0 for none.
     pub fn position(&self, label: u32) -> usize
         ensures { result ≡ exit_of (labels_of self.now) label }
     {
         position_in(self.items.as_slice(), label)
     }
 
-    /// The exit of this number.
+    /// The exit at this index.
     pub fn get(&self, index: usize) -> Option<&Exit>
         ensures some { IfSome result (λ exit. slice_get self.now index ≡ Some exit.now) }
         ensures none { result ≡ None → slice_get self.now index ≡ None }
@@ -61,7 +62,7 @@ impl Exits {
         self.items.get(index)
     }
 
-    /// Puts other words at an exit.
+    /// Sets the words of an exit.
     pub fn set(&mut self, index: usize, live: u32, vars: Variables, written: Names)
         ensures { (exit : Exit) → slice_get self.old index ≡ Some exit
             → self.new ≡ slice_set self.old index
@@ -77,7 +78,7 @@ impl Exits {
 
     /// Adds the exit of an inner block.
     ///
-    /// The one error is want of memory.
+    /// The only error is out of memory.
     pub fn push(&mut self, exit: Exit) -> Result<(), AllocError>
         ensures { OnOk result (self.new ≡ self.old ++ exit ∷ []) }
     {
@@ -85,7 +86,7 @@ impl Exits {
         Ok(())
     }
 
-    /// Takes the innermost exit away.
+    /// Removes the innermost exit.
     pub fn pop(&mut self) -> Option<Exit>
         ensures some { IfSome result (λ exit. self.old ≡ self.new ++ exit ∷ []) }
         ensures none { result ≡ None → self.old ≡ [] }
@@ -94,6 +95,7 @@ impl Exits {
     }
 }
 
+/// The index of the exit of the innermost block with this label, 0 if there is none.
 fn position_in(exits: &[Exit], label: u32) -> usize
     ensures { result ≡ exit_of (labels_of exits.now) label }
 {
@@ -104,7 +106,7 @@ fn position_in(exits: &[Exit], label: u32) -> usize
     found
 }
 
-/// The number of an exit where the labels are equal, and else what was found before.
+/// The index of an exit if the labels are equal, and else the index found before.
 fn later(label: u32, other: u32, index: usize, found: usize) -> usize
     ensures { result ≡ cond (label == other) index found }
 {

@@ -1,4 +1,5 @@
-//! Entries that are determined by what they name: equal ones have equal values, so each is made once.
+//! Value numbering: entries that are determined by what they name. Equal ones have equal values, so each is
+//! made once.
 
 ghost use Rattle.std.specs.Prelude.{◌≡◌};
 ghost use Rattle.ba_guards.specs.Sharing.{entry};
@@ -6,7 +7,8 @@ ghost use Rattle.ba_guards.specs.Sharing.{entry};
 use ba_numbers::numbers::{BinOp, CType, UnOp};
 use ba_wordlist::words::WordOp;
 
-/// A constant, or a word that earlier entries determine. What it names is hashed, and not its operator or type.
+/// A constant, or a word that earlier entries determine. The hash is of the entries that it names, without
+/// its operator and type.
 #[derive(Clone, Copy, PartialEq, Eq)]
 #[derive_where(Hash)]
 pub enum Expression {

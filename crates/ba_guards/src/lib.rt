@@ -1,9 +1,9 @@
-//! Guarded words: a program without calls and loops as a list of words, in which each is computed once.
+//! Symbolic execution with path conditions into SSA. Source: R. Cytron, J. Ferrante, B. Rosen, M. Wegman and
+//! F. Zadeck, "Efficiently computing static single assignment form and the control dependence graph".
 //!
-//! [`guard`] walks over the program as over one line of code. What a branch does takes place where its guard, a word, isn't 0; where
-//! branches join, each variable is the word of the one or of the other ("static single assignment form": R. Cytron, J. Ferrante,
-//! B. K. Rosen, M. N. Wegman and F. K. Zadeck, "Efficiently computing static single assignment form and the control dependence graph",
-//! 1991).
+//! [`guard`] walks over a loop-free program as over one line of code, and computes each word once. A branch
+//! is executed if its path condition, a word, isn't 0. If branches join, each variable is a select of its two
+//! words.
 #![tactic(auto)]
 
 mod builder;

@@ -7,7 +7,7 @@ use ba_items::Items;
 use std::alloc::{AllocError, Global};
 use std::marker::Model;
 
-/// Numbers of words, as one for each array. Contracts see their list.
+/// Numbers of words, for instance one for each array. A contract sees their list.
 #[derive(Drop)]
 pub struct Names {
     items: Vec<u32>,
@@ -22,7 +22,7 @@ impl Model for Names {
 }
 
 impl Names {
-    /// No name. It takes no memory.
+    /// No numbers. It takes no memory.
     pub fn new(alloc: Global) -> Names
         ensures { result ≡ [] }
     {
@@ -31,9 +31,9 @@ impl Names {
         }
     }
 
-    /// So many names of word 0.
+    /// `count` times the number 0.
     ///
-    /// The one error is want of memory.
+    /// The only error is out of memory.
     pub fn zeros(alloc: Global, count: usize) -> Result<Names, AllocError>
         ensures { IfOk result (λ names. names ≡ replicate count 0) }
     {
@@ -42,14 +42,14 @@ impl Names {
         })
     }
 
-    /// The name at a number, and word 0 where none is. It takes no memory.
+    /// The entry at this index, and 0 past the end. It takes no memory.
     pub fn at(&self, number: u32) -> u32
         ensures { result ≡ slice_index_or self.now number 0 }
     {
         self.at_index(number as usize)
     }
 
-    /// The same. It takes no memory.
+    /// The entry at this index, and 0 past the end. It takes no memory.
     pub fn at_index(&self, index: usize) -> u32
         ensures { result ≡ slice_index_or self.now index 0 }
     {
@@ -60,21 +60,21 @@ impl Names {
         }
     }
 
-    /// How many names there are. It takes no memory.
+    /// How many entries there are. It takes no memory.
     pub fn len(&self) -> usize
         ensures { result ≡ length self.now }
     {
         self.items.len()
     }
 
-    /// Puts another name at a number, where one is. It takes no memory.
+    /// Sets the entry at this index, if there is one. It takes no memory.
     pub fn set(&mut self, number: u32, name: u32)
         ensures { self.new ≡ slice_set self.old number name }
     {
         self.set_index(number as usize, name);
     }
 
-    /// The same. It takes no memory.
+    /// Sets the entry at this index, if there is one. It takes no memory.
     pub fn set_index(&mut self, index: usize, name: u32)
         ensures { self.new ≡ slice_set self.old index name }
     {
@@ -83,9 +83,9 @@ impl Names {
         }
     }
 
-    /// Adds a name at the end.
+    /// Adds an entry at the end.
     ///
-    /// The one error is want of memory.
+    /// The only error is out of memory.
     pub fn push(&mut self, name: u32) -> Result<(), AllocError>
         ensures { OnOk result (self.new ≡ self.old ++ name ∷ []) }
     {
@@ -93,9 +93,9 @@ impl Names {
         Ok(())
     }
 
-    /// Adds names at the end.
+    /// Adds entries at the end.
     ///
-    /// The one error is want of memory.
+    /// The only error is out of memory.
     pub fn append(&mut self, names: &Names) -> Result<(), AllocError>
         ensures { OnOk result (self.new ≡ self.old ++ names.now) }
     {
@@ -103,16 +103,16 @@ impl Names {
         Ok(())
     }
 
-    /// Leaves so many names. It takes no memory.
+    /// Keeps the first `count` entries. It takes no memory.
     pub fn truncate(&mut self, count: usize)
         ensures { self.new ≡ take count self.old }
     {
         self.items.truncate(count);
     }
 
-    /// What is behind so many names.
+    /// The entries from index `start` on.
     ///
-    /// The one error is want of memory.
+    /// The only error is out of memory.
     pub fn behind(&self, alloc: Global, start: usize) -> Result<Names, AllocError>
         ensures { IfOk result (λ names. names ≡ drop start self.now) }
     {
@@ -121,9 +121,9 @@ impl Names {
         })
     }
 
-    /// What is behind so many names, and others, in ascending order and each once.
+    /// The entries from index `start` on, and others, in ascending order and each once.
     ///
-    /// The one error is want of memory.
+    /// The only error is out of memory.
     pub fn since(&self, alloc: Global, start: usize, others: &Names) -> Result<Names, AllocError>
         ensures { IfOk result (λ names. (n : ℕ) →
             is_among n names ≡ is_among n (drop start self.now ++ others.now)) }
@@ -135,9 +135,9 @@ impl Names {
         Ok(Names { items })
     }
 
-    /// The names once more.
+    /// A copy of the entries.
     ///
-    /// The one error is want of memory.
+    /// The only error is out of memory.
     pub fn copied(&self, alloc: Global) -> Result<Names, AllocError>
         ensures { IfOk result (λ names. names ≡ self.now) }
     {
@@ -146,14 +146,14 @@ impl Names {
         })
     }
 
-    /// The names as a list. It takes no memory.
+    /// The entries as a list. It takes no memory.
     pub fn into_items(self) -> Items<u32>
         ensures { result ≡ self }
     {
         Items::from_vec(self.items)
     }
 
-    /// The names in their order.
+    /// The entries in their order.
     pub fn as_slice(&self) -> &[u32]
         ensures { result.now ≡ self.now }
     {
@@ -161,7 +161,7 @@ impl Names {
     }
 }
 
-/// What is behind so many names.
+/// The entries from index `start` on.
 fn behind(names: &[u32], start: usize) -> &[u32]
     ensures { result.now ≡ drop start names.now }
 {

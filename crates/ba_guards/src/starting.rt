@@ -1,4 +1,4 @@
-//! Where a run begins: all variables and elements are 0 but for what the input gives to parameters.
+//! The start of a run: all variables and elements are 0 except those of parameters, which the input gives.
 
 ghost use Rattle.std.specs.Prelude.{◌≡◌, ℕ, ℤ, pos, true, [], map, IfOk, OnOk, slice_index_or};
 ghost use Rattle.std.specs.List.{list_all};
@@ -23,8 +23,8 @@ use ba_items::Items;
 use ba_wordlist::words::WordOp;
 use std::alloc::{AllocError, Global};
 
-/// A list in which all variables and elements are 0, and at whose end the run stands. One exit, which
-/// nothing takes, stands below those of the blocks.
+/// A list in which all variables and elements are 0, and at whose end the run is. It has one exit below those
+/// of the blocks, which is never taken.
 pub fn start(alloc: Global, vars: u32, arrays: &[ArrayInfo]) -> Result<Builder, AllocError>
     ensures { IfOk result (λ b. list_all is_array_info arrays.now ≡ true
         → Starts (declared vars arrays.now) b (all_zero arrays.now [])) }
@@ -55,7 +55,7 @@ pub fn start(alloc: Global, vars: u32, arrays: &[ArrayInfo]) -> Result<Builder, 
     })
 }
 
-/// A version of each array, whose elements are 0.
+/// A state of each array, whose elements are 0.
 fn zero_arrays(alloc: Global, words: &mut Words, arrays: &[ArrayInfo]) -> Result<Names, AllocError>
     ensures { IfOk result (λ versions. are_words words.old ≡ true
         → list_all is_array_info arrays.now ≡ true
@@ -69,7 +69,7 @@ fn zero_arrays(alloc: Global, words: &mut Words, arrays: &[ArrayInfo]) -> Result
     Ok(versions)
 }
 
-/// Gives the parameters what the input has for them.
+/// Gives the parameters the values of the input.
 pub fn give_input(
     alloc: Global,
     arrays: &[ArrayInfo],
@@ -114,7 +114,7 @@ fn give(
     }
 }
 
-/// The values as operands, so many of them: 0 where there is no value.
+/// The first `count` values as operands; a missing value is 0.
 fn constants(alloc: Global, count: u32, values: &[i64]) -> Result<Vec<Operand>, AllocError>
     ensures { IfOk result (λ constants. constants.items
         ≡ map Const (elements_with count values.now)) }
@@ -126,7 +126,7 @@ fn constants(alloc: Global, count: u32, values: &[i64]) -> Result<Vec<Operand>, 
     Ok(constants)
 }
 
-/// The value of this number, and 0 where there is none.
+/// The value at this index, and 0 past the end.
 fn value_at(values: &[i64], index: usize) -> i64
     ensures { result ≡ slice_index_or values.now index (pos 0) }
 {

@@ -1,4 +1,4 @@
-//! Nodes without parts: each adds words, and changes a variable, an array or the requirements.
+//! Nodes without nodes inside: each adds words, and changes a variable, an array or the requirements.
 
 ghost use Rattle.std.specs.Prelude.{◌≡◌, ◌<◌, ◌≤◌, ◌==◌, ℕ, true, not, ◌&&◌, length, IfOk, OnOk};
 ghost use Rattle.std.specs.List.{list_all};
@@ -52,7 +52,7 @@ pub fn convert(b: &mut Builder, to: u32, t: CType, a: Operand) -> Result<(), All
     Ok(())
 }
 
-/// A variable gets the value of a binary operator, whose divisor isn't 0.
+/// A variable gets the value of a binary operator, whose divisor is required to be other than 0.
 pub fn binary(
     b: &mut Builder,
     to: u32,
@@ -88,7 +88,7 @@ fn demand_divisor(b: &mut Builder, op: BinOp, t: CType, divisor: u32) -> Result<
     Ok(())
 }
 
-/// Whether an operator has a value at all operands.
+/// Whether an operator has a value for all operands.
 fn never_traps(op: BinOp) -> bool
     ensures { result ≡ not (divides op) }
 {
@@ -98,7 +98,7 @@ fn never_traps(op: BinOp) -> bool
     }
 }
 
-/// Requires an index to be in an array of so many elements.
+/// Requires an index to be in an array of `count` elements.
 pub fn demand_index(b: &mut Builder, count: u32, index: u32) -> Result<(), AllocError>
     ensures { OnOk result ((d : Declared) (halt : Halt) → Fits d b.old
         → index < length b.old.words → count ≤ 256

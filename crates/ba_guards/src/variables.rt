@@ -17,8 +17,8 @@ use std::rc::Rc;
 /// How many variables have their words in one chunk.
 const CHUNK: usize = 128;
 
-/// A word for each variable. A copy shares the chunks of words, and a write copies its chunk alone.
-/// Contracts see the list of words.
+/// A word for each variable. A copy shares the chunks of words, and a write copies only its chunk. A contract
+/// sees the list of words.
 #[derive(Drop)]
 pub struct Variables {
     chunks: Vec<Rc<Names>>,
@@ -38,9 +38,9 @@ impl Model for Variables {
 }
 
 impl Variables {
-    /// So many variables of word 0.
+    /// `count` variables of word 0.
     ///
-    /// The one error is want of memory.
+    /// The only error is out of memory.
     pub fn zeros(alloc: Global, count: usize) -> Result<Variables, AllocError>
         ensures { IfOk result (λ variables. variables ≡ replicate count 0) }
     {
@@ -51,7 +51,7 @@ impl Variables {
         Ok(Variables { chunks })
     }
 
-    /// The word of a variable, and word 0 where there is none. It takes no memory.
+    /// The word of a variable, and word 0 if there is none. It takes no memory.
     pub fn at(&self, number: u32) -> u32
         ensures { result ≡ slice_index_or self.now number 0 }
     {
@@ -60,7 +60,7 @@ impl Variables {
 
     /// Gives a variable another word.
     ///
-    /// The one error is want of memory.
+    /// The only error is out of memory.
     pub fn set(&mut self, number: u32, word: u32) -> Result<(), AllocError>
         ensures { OnOk result (self.new ≡ slice_set self.old number word) }
     {
@@ -69,9 +69,9 @@ impl Variables {
         Ok(())
     }
 
-    /// The words once more. Both share their chunks.
+    /// A copy of the words, which shares their chunks.
     ///
-    /// The one error is want of memory.
+    /// The only error is out of memory.
     pub fn copied(&self, alloc: Global) -> Result<Variables, AllocError>
         ensures { IfOk result (λ variables. variables ≡ self.now) }
     {
@@ -80,10 +80,10 @@ impl Variables {
         })
     }
 
-    /// Gives each of these variables its word in `yes` where `which` isn't 0, and keeps its word elsewhere. All others have the same word
-    /// in both.
+    /// Gives each of these variables a select: its word in `yes` if `which` isn't 0, and else its own. All
+    /// others have the same word in both.
     ///
-    /// The one error is want of memory.
+    /// The only error is out of memory.
     pub fn merge(
         &mut self,
         words: &mut Words,
@@ -106,9 +106,9 @@ impl Variables {
         Ok(())
     }
 
-    /// Those of the variables whose words are others than before.
+    /// Which of the variables have other words than before.
     ///
-    /// The one error is want of memory.
+    /// The only error is out of memory.
     pub fn changed(
         &self,
         alloc: Global,
@@ -128,7 +128,7 @@ impl Variables {
     }
 }
 
-/// So many full chunks of word 0, which are one.
+/// `count` full chunks of word 0, which share their memory.
 fn full_chunks(alloc: Global, count: usize) -> Result<Vec<Rc<Names>>, AllocError>
     ensures { IfOk result (λ chunks. map rc_value chunks.items ≡ replicate count (replicate 128 0)) }
 {
@@ -142,7 +142,7 @@ fn full_chunks(alloc: Global, count: usize) -> Result<Vec<Rc<Names>>, AllocError
     Ok(chunks)
 }
 
-/// The word of this number in chunks, and word 0 where there is none.
+/// The word at this index of the chunks, and word 0 past the end.
 fn word_at(chunks: &[Rc<Names>], number: usize) -> u32
     ensures { AreChunks 128 (map rc_value chunks.now)
         → result ≡ slice_index_or (concat (map rc_value chunks.now)) number 0 }
@@ -155,7 +155,7 @@ fn word_at(chunks: &[Rc<Names>], number: usize) -> u32
     }
 }
 
-/// Puts another word at a number in chunks.
+/// Sets the word at this index of the chunks.
 fn set_word(
     alloc: Global,
     chunks: &mut [Rc<Names>],
@@ -175,7 +175,7 @@ fn set_word(
     Ok(())
 }
 
-/// Puts another word at an index of a chunk, which is copied first if it is shared.
+/// Sets the word at an index of a chunk, which is copied first if it is shared.
 fn set_in_chunk(
     alloc: Global,
     chunk: &mut Rc<Names>,

@@ -1,4 +1,4 @@
-//! The nodes of a program, one behind another.
+//! The nodes of a program, one after another.
 
 ghost use Rattle.std.specs.Prelude.{ℕ, ◌≡◌, true, length, OnOk, slice_index_or};
 ghost use Rattle.std.specs.List.{list_all};
@@ -38,7 +38,8 @@ pub fn guard_nodes(
     Ok(())
 }
 
-/// Adds the words of a node: none where the run never comes to it, and those of one side where a condition is a constant.
+/// Adds the words of a node. There are none if the run never comes to it, and only one side's if a condition
+/// is a constant.
 #[cycle(walk)]
 fn guard_node(
     alloc: Global,
@@ -97,7 +98,7 @@ fn guard_node(
     }
 }
 
-/// Adds the words of a node without nodes inside; others are answered as if out of memory.
+/// Adds the words of a node without nodes inside. Any other node is answered as out of memory.
 #[inline(never)]
 fn guard_leaf(
     alloc: Global,
@@ -143,7 +144,7 @@ fn guard_leaf(
     }
 }
 
-/// Does what the values of a choice do, which are those of words, on the second side of a branch.
+/// Does what the values of a choice do, which these words have, on the second side of a branch.
 #[inline(never)]
 pub fn take_values(
     arrays: &[ArrayInfo],
@@ -191,7 +192,7 @@ pub fn take_values(
     }
 }
 
-/// The word of a value, and word 0 where there is none.
+/// The word of a value, and word 0 past the end.
 fn word_at(values: &Items<u32>, index: usize) -> u32
     ensures { result ≡ slice_index_or values.now index 0 }
 {

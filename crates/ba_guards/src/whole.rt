@@ -13,19 +13,17 @@ use ba_tree::run::Input;
 use ba_wordlist::words::WordList;
 use std::alloc::{AllocError, Global};
 
-/// The words of a program without calls and loops, on an input whose values are in the range of `I32`
-/// or of `U32`.
+/// The words of a loop-free program, on an input whose values are in the range of `I32` or of `U32`.
 ///
-/// The requirements hold under an assignment exactly where the run is good in which each execution of
-/// a statement may be relaxed and has the choice that the assignment spells. Where they do, the places
-/// whose guard is not 0 are, in their order, those at which this run uses up its choices. Each list of
-/// choices with a good run is spelled by some assignment. The same holds of runs in which only some
-/// executions may be relaxed, for assignments with Keep at all other places.
+/// Let each execution of a statement be relaxed, with the choice that an assignment spells. The assignment
+/// meets the requirements exactly if that run is good. The places whose guard is not 0 are then, in order,
+/// those at which the run uses up its choices. Each good run has the choices of some assignment. The same
+/// holds if only some executions may be relaxed, for assignments with Keep at all other places.
 ///
-/// A value that the input lacks is 0, and values past the parameters, or past the elements of an
-/// array, count for nothing, as in a run of the program.
+/// A value that the input lacks is 0. Values past the parameters, or past the elements of an array, are not
+/// used.
 ///
-/// The one error is want of memory, also for more than 2^32 - 1 words.
+/// The only error is out of memory, also for more than 2^32 - 1 words.
 pub fn guard(alloc: Global, tree: &BoundTree, input: &Input) -> Result<WordList, AllocError>
     requires { are_word_values input.now.values ≡ true }
     ensures { IfOk result (λ list. IsGuarded tree.now input.now list) }

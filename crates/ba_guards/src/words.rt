@@ -1,4 +1,4 @@
-//! Lists of words as they are made, with constants computed on the way.
+//! Word lists as they are made, with constants folded.
 
 ghost use Rattle.std.specs.Prelude.{◌≡◌, ◌<◌, ℕ, ℤ, pos, true, false, cond, ◌++◌, ◌∷◌, [], length, map, replicate, Some, IfOk, IfSome, nat_le, ◌&&◌, ◌==◌, slice_get, slice_index_or, slice_set};
 ghost use Rattle.ba_code.specs.Operators.{converting};
@@ -19,7 +19,7 @@ use std::alloc::{AllocError, Global};
 use std::collections::HashMap;
 use std::marker::Model;
 
-/// Words that were made so far, with the numbers of the expressions among them. Contracts see their list.
+/// The words so far, with the numbers of the expressions among them. A contract sees their list.
 #[derive(Drop)]
 pub struct Words {
     items: Vec<WordOp>,
@@ -47,7 +47,7 @@ pub const ZERO: u32 = 0;
 pub const ONE: u32 = 1;
 
 impl Words {
-    /// No word. It takes no memory.
+    /// No words. It takes no memory.
     pub fn new(alloc: Global) -> Words
         ensures { result ≡ [] }
     {
@@ -67,7 +67,7 @@ impl Words {
 
     /// Adds a word and gives its number.
     ///
-    /// The one error is want of memory, also for more than 2^32 - 1 words.
+    /// The only error is out of memory, also for more than 2^32 - 1 words.
     pub fn push(&mut self, op: WordOp) -> Result<u32, AllocError>
         ensures name { IfOk result (λ word. word ≡ length self.old) }
         ensures words { IfOk result (λ word. self.new ≡ self.old ++ op ∷ []) }
@@ -80,7 +80,7 @@ impl Words {
         Ok(count as u32)
     }
 
-    /// The word of an expression: the one that has it, and else a new one.
+    /// The word of an expression: the one that has it, or else a new one.
     fn made(&mut self, expression: Expression) -> Result<u32, AllocError>
         ensures { IfOk result (λ word. StandsAt self.old self.new word (entry expression)) }
     {
@@ -92,7 +92,7 @@ impl Words {
         Ok(word)
     }
 
-    /// The number that a word always is, where it is a constant.
+    /// The value of a word that is a constant.
     pub fn constant_of(&self, word: u32) -> Option<i64>
         ensures { IfSome result (λ z. slice_get self.now word ≡ Some (Const z)) }
     {
@@ -119,7 +119,7 @@ impl Words {
         self.is_constant(word, 0)
     }
 
-    /// A word that is this number.
+    /// A word with this value.
     pub fn constant(&mut self, value: i64) -> Result<u32, AllocError>
         ensures { IfOk result (λ word. are_words self.old ≡ true → is_word_value value ≡ true
             → Emits self.old self.new word (λ f. value)) }
@@ -134,7 +134,7 @@ impl Words {
         Ok(word)
     }
 
-    /// Whether a word is the constant of this number.
+    /// Whether a word is the constant of this value.
     fn is_constant(&self, word: u32, value: i64) -> bool
         ensures { result ≡ true → slice_get self.now word ≡ Some (Const value) }
     {
@@ -219,7 +219,7 @@ impl Words {
         }
     }
 
-    /// The value of a binary operator at two constants, where it has one.
+    /// The value of a binary operator on two constants, if it has one.
     fn computed(&self, op: BinOp, t: CType, a: u32, b: u32) -> Option<i64>
         ensures { IfSome result (λ z. (is_word_value z ≡ true)
             × ((f : Assignment)
@@ -230,7 +230,7 @@ impl Words {
         apply(op, t, convert(t, a), right_operand(op, t, b))
     }
 
-    /// The word `yes` where `which` isn't 0, and else the word `no`.
+    /// The word `yes` if `which` isn't 0, and else the word `no`.
     pub fn select(&mut self, which: u32, yes: u32, no: u32) -> Result<u32, AllocError>
         ensures { IfOk result (λ word. are_words self.old ≡ true → which < length self.old
             → yes < length self.old
@@ -271,7 +271,7 @@ impl Words {
         Ok(word)
     }
 
-    /// An array with other elements, where `when` isn't 0.
+    /// An array with these elements, if `when` isn't 0.
     pub fn fill(&mut self, of: u32, values: Items<u32>, when: u32) -> Result<u32, AllocError>
         ensures { IfOk result (λ word. (count : ℕ) → are_words self.old ≡ true
             → of < length self.old
@@ -285,7 +285,7 @@ impl Words {
         Ok(word)
     }
 
-    /// An array with another element at an index, where `when` isn't 0 and the index is in it.
+    /// An array with another element at an index, if `when` isn't 0 and the index is in it.
     pub fn write(&mut self, of: u32, index: u32, value: u32, when: u32) -> Result<u32, AllocError>
         ensures { IfOk result (λ word. (count : ℕ) → are_words self.old ≡ true
             → of < length self.old
@@ -306,7 +306,7 @@ impl Words {
         Ok(word)
     }
 
-    /// The write that an entry is, where it takes place where this word isn't 0.
+    /// The write of an entry, if it is one that takes place if this word isn't 0.
     fn write_at(&self, array: u32, when: u32) -> Option<Store>
         ensures { IfSome result
             (λ s. slice_get self.now array ≡ Some (Write s.of s.index s.value when)) }
@@ -334,8 +334,8 @@ impl Words {
         }
     }
 
-    /// An array with another element at an index, on the second side of a branch. Where the last that happened to it was a write on the
-    /// first side, both are one write of the one element or of the other.
+    /// An array with another element at an index, on the second side of a branch. If its last change was a
+    /// write on the first side, both become one write with selects.
     pub fn write_second(
         &mut self,
         of: u32,
@@ -375,7 +375,7 @@ struct Store {
     value: u32,
 }
 
-/// The right operand as an operator takes it: the count of a shift as it is, and else converted.
+/// The right operand of an operator: the count of a shift as it is, any other converted.
 fn right_operand(op: BinOp, t: CType, b: i64) -> i64
     ensures { result ≡ cond (shifts op) b (converted t b) }
 {
@@ -385,7 +385,7 @@ fn right_operand(op: BinOp, t: CType, b: i64) -> i64
     }
 }
 
-/// The first where the value isn't 0, and else the second.
+/// The first word if the value isn't 0, and else the second.
 fn chosen(value: i64, yes: u32, no: u32) -> u32
     ensures { result ≡ cond (is_nonzero value) yes no }
 {

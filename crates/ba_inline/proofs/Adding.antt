@@ -1,4 +1,4 @@
--- A node that is put behind others.
+-- A node that is put after others.
 use Rattle.std.proofs.Common.{◌≡◌, ℕ, Bool, true, false, List, [], ◌∷◌, ◌++◌, refl, ◌∙◌, ap}
 use Rattle.std.specs.Global.{Vec}
 use Rattle.ba_numbers.specs.declared.ids.StmtId.{StmtId}

@@ -73,6 +73,14 @@ value-high {p = p} {names = names} {path = path} {part = part} {calls = calls} {
     {old = old} {new = new} is made =
     subst (λ high. MakesValue p names path part calls keep o low high old new) (sym is) made
 
+pub value-kept : {p : Program} {names : Names} {path : List Step} {part : Part ℤ} {calls keep other : Bool}
+    {o : Operand} {low high : Types} {old new : List Node} → keep ≡ other
+    → MakesValue p names path part calls keep o low high old new →
+    MakesValue p names path part calls other o low high old new
+value-kept {p = p} {names = names} {path = path} {part = part} {calls = calls} {o = o} {low = low} {high = high}
+    {old = old} {new = new} is made =
+    subst (λ keep. MakesValue p names path part calls keep o low high old new) is made
+
 pub makes-high : {A : Type 0} {p : Program} {names : Names} {path : List Step} {part : Part A}
     {stands : CodeState → Standing A} {low high other : Types} {old new : List Node} → high ≡ other
     → Makes p names path part stands low other old new → Makes p names path part stands low high old new
@@ -91,7 +99,7 @@ makes-old {p = p} {names = names} {path = path} {part = part} {stands = stands} 
 pub nodes-len : (nodes : Vec Node) → vec_len nodes ≡ length nodes.items
 nodes-len nodes = omega (arith, nodes.ok.0)
 
--- the same nodes behind others
+-- the same nodes after others
 pub makes-from : {A : Type 0} {p : Program} {names : Names} {path : List Step} {part : Part A}
     {stands : CodeState → Standing A} {low high : Types} {old new : List Node} (other : List Node)
     → (made : Makes p names path part stands low high old new)
@@ -103,7 +111,7 @@ makes-from other made = record {
   runs = made.runs;
 }
 
--- the same nodes behind none
+-- the same nodes after none
 pub adds-alone : {old new : List Node} {act : Setting → InTurns} → (added : Adds old new act)
     → Adds [] added.nodes act
 adds-alone added = record {

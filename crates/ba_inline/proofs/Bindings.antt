@@ -138,7 +138,7 @@ module _ (p : Program) (names : Names) (low : Types) (scope : IsScope p names lo
       value-origin w n (inl both) = inr (omega (arith, both.1, is_m, few))
       value-origin w n (inr found) = binds.origin w n found
 
-      -- the name that is hidden stands nowhere in the frame
+      -- the name that is hidden occurs nowhere in the frame
       hidden-by : (n w : ℕ) → slice_get names.values v.0 ≡ Some (Var n)
           → slice_get (slice_set inner.values v.0 (Var m)) w ≡ Some (Var n)
           → (slice_get names.values w ≡ Some (Var n)) ⊎ (length low.vars ≤ n) → ⊥

@@ -50,7 +50,7 @@ others_false : (a b : Bool) → (a || b) ≡ false → b ≡ false
 others_false true b h = cc
 others_false false b h = h
 
--- LABELS that differ: one of them, or `default`, stands at a place where the label of the value does
+-- LABELS that differ: one of them, or `default`, is at a place where the label of the value does
 
 abbrev pub values_of : List Start → List ℤ
 values_of starts = map (λ (start : Start). start.value) starts
@@ -143,7 +143,7 @@ pub before-next : (label : Option ℕ) (place : ℕ) → is_before label (place 
 before-next None place = refl
 before-next (Some at) place = entered_next at place
 
--- a flag of what stands before a place, and the tests of the place
+-- a flag of what precedes a place, and the tests of the place
 pub joined-is : (starts : List Start) (other : Option ℕ) (z : ℤ) (place : ℕ) → values_differ (values_of
     starts) ≡ true
     → ((is_before (label_at starts z other) place || some_start starts (tests_of starts z) place)
@@ -243,7 +243,7 @@ module _ (x : Context) (path : List Step) where
       (guarded_row x path front zs) (guarded_row x path others ws)
       (λ s. guarded-append front others zs ws s (omega (arith, same)))
 
-  -- a row with one flag is run where it is set
+  -- a row with one flag is run if it is set
   same-zero : (z : ℤ) (body : List Stmt) (s : State) → int_eq z (pos 0) ≡ true
       → guarded_row x path body (map (λ (stmt : Stmt). z) body) s ≡ (Ok Next, s)
   same-zero z [] s is = refl

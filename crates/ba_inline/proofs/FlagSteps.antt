@@ -129,7 +129,7 @@ between-at base n [] i o d h within is = absurd (omega arith)
 between-at base n (p ∷ os) zero o d h within is = subst (IsBetween base n) (sym is) h.0
 between-at base n (p ∷ os) (suc i) o d h within is = between-at base n os i o d h.1 (omega (arith, within)) is
 
--- what stands still keeps its value
+-- what stays keeps its value
 pub operand-still : (base n : ℕ) (o : Operand) (t u : CodeState)
     → ((k : ℕ) → k < n → u.variables k ≡ t.variables k) → IsBetween base n o → operand_value u o ≡
     operand_value t o

@@ -1,4 +1,4 @@
--- Statements that are run where a flag is set, in groups.
+-- Statements that are run if a flag is set, in groups.
 use Rattle.std.proofs.Common.{◌≡◌, ℕ, zero, suc, ◌+◌, ℤ, pos, Bool, true, false, cond, List, [], ◌∷◌, ◌++◌, map, length, refl, sym, ◌∙◌, ap, subst, append-nil, append_assoc}
 use Rattle.std.specs.Prelude.{slice_index_or}
 use Rattle.std.specs.Ordering.{int_eq}
@@ -35,7 +35,7 @@ use Rattle.ba_tree.specs.declared.run.Step.{Step}
 use Rattle.ba_tree.specs.declared.tree.Program.{Program}
 use Rattle.ba_tree.specs.declared.tree.Stmt.{Stmt}
 
--- nodes that aren't put behind others, since they would do nothing
+-- nodes that aren't put after others, since they would do nothing
 fork-same : {A : Type 0} (z : ℤ) (e : A) → cond (int_eq z (pos 0)) e e ≡ e
 fork-same z e = by (int_eq z (pos 0))
   where
@@ -84,7 +84,7 @@ pub flag-settled : (names : Names) (d : Types) (os : List Operand) (i : ℕ) (fl
 flag-settled names d os i flag settled is =
     subst (IsSettled true names d) (sym is) (settled-at true names d os i settled)
 
--- SO FAR: the first statements of a body stand behind others, those behind them in a group
+-- SO FAR: the first statements of a body are after others, those after them in a group
 
 pub record IsGrouped (p : Program) (names : Names) (path : List Step) (frame : Frame) (low now : Types)
     (old out nodes : List Node) (when : Operand) (body : List Stmt) (flags : List Operand) : Type 0 where
@@ -121,7 +121,7 @@ module _ (p : Program) (names : Names) (path : List Step) (frame : Frame) (low :
     keeps = keeps-same true (with_home frame.home names) d u;
   }
 
-  -- the group is put behind the others
+  -- the group is put after the others
   module _ (now : Types) (old out new nodes : List Node) (when : Operand) (body : List Stmt) (flags : List
       Operand)
       (so_far : Grouped now old out nodes when body flags) (added : Adds out new (if_act when nodes [])) where

@@ -40,7 +40,7 @@ restored-over d [] n x y before now = set-set now n x y
 restored-over d (w ∷ vs) n x y before now = over-step d vs n w.0 x y (slice_index_or before w.0 d) before now
     (cases_eq n w.0) (λ now. restored-over d vs n x y before now)
 
--- a list that has come back has come back where one more variable does
+-- a list that has come back has come back if one more variable does
 pub restored-more : {A : Type 0} (d : A) (vs : List VarId) (v : VarId) (x : A) (before now whole : List A)
     → restored d vs before now ≡ whole → slice_index_or before v.0 d ≡ slice_index_or whole v.0 d
     → restored d (vs ++ v ∷ []) before (slice_set now v.0 x) ≡ whole
@@ -93,7 +93,7 @@ further : (os : List Operand) (v m w n : ℕ) → ((w ≡ v) × (m ≡ n)) ⊎ (
 further os v m w n (inl both) = inl (ap suc both.0, both.1)
 further os v m w n (inr found) = inr found
 
--- where a list with one more variable has a variable
+-- if a list with one more variable has a variable
 pub found-set : (os : List Operand) (v m w n : ℕ) → slice_get (slice_set os v (Var m)) w ≡ Some (Var n)
     → ((w ≡ v) × (m ≡ n)) ⊎ (slice_get os w ≡ Some (Var n))
 found-set [] v m w n found = inr found
@@ -102,20 +102,20 @@ found-set (o ∷ os) zero m (suc w) n found = inr found
 found-set (o ∷ os) (suc v) m zero n found = inr found
 found-set (o ∷ os) (suc v) m (suc w) n found = further os v m w n (found-set os v m w n found)
 
--- a variable that stands nowhere is outside
+-- a variable that occurs nowhere is outside
 pub outside-by : (os : List Operand) (n : ℕ) → ((v : ℕ) → slice_get os v ≡ Some (Var n) → ⊥) → Outside n os
 outside-by [] n none = tt
 outside-by (Const z ∷ os) n none = (tt, outside-by os n (λ v found. none (suc v) found))
 outside-by (Var m ∷ os) n none =
     ((λ same. none 0 (ap (λ m. Some (Var m)) same)), outside-by os n (λ v found. none (suc v) found))
 
--- and one that is outside stands nowhere
+-- and one that is outside occurs nowhere
 pub not-found : (os : List Operand) (n v : ℕ) → Outside n os → slice_get os v ≡ Some (Var n) → ⊥
 not-found [] n v out found = absurd (let f : None ≡ Some (Var n) = found in cc)
 not-found (o ∷ os) n zero out found = let e : o ≡ Var n = cc in (subst (IsOther n) e out.0) refl
 not-found (o ∷ os) n (suc v) out found = not-found os n v out.1 found
 
--- where variables are apart, each stands in one place
+-- if variables are apart, each is in one place
 pub one-place : (os : List Operand) (n v w : ℕ) → AreApart os → slice_get os v ≡ Some (Var n) →
     slice_get os w ≡ Some (Var n)
     → v ≡ w
@@ -129,7 +129,7 @@ one-place (o ∷ os) n (suc v) (suc w) apart found again = ap suc (one-place os 
 
 -- READS
 
--- what stands at a place of names reads the same, where its variable has the same value
+-- what is at a place of names reads the same, if its variable has the same value
 pub same-at : (os : List Operand) (v : ℕ) (t u : CodeState)
     → ((n : ℕ) → slice_get os v ≡ Some (Var n) → u.variables n ≡ t.variables n)
     → slice_index_or (map (operand_value t) os) v (pos 0) ≡ slice_index_or (map (operand_value u) os) v

@@ -23,12 +23,12 @@ use Rattle.ba_tree.specs.declared.run.Flow.TheVariants.{Next}
 use Rattle.ba_tree.specs.declared.run.Step.{Step}
 use Rattle.ba_tree.specs.declared.tree.Program.{Program}
 
--- NODES behind others
+-- NODES after others
 
 pub joined : (old mid new xs ys : List Node) → mid ≡ old ++ xs → new ≡ mid ++ ys → new ≡ old ++ (xs ++ ys)
 joined old mid new xs ys first second = second ∙ ap (λ mid. mid ++ ys) first ∙ append_assoc old xs ys
 
--- GOING ON behind a part
+-- GOING ON after a part
 
 -- with what was given as the code's state has it, and with what the names show
 pub goes-on : {A C : Type 0} (better : C → State → Flow ℕ → CodeState → Type 0) (names : Names) (calls : Bool)
@@ -163,7 +163,7 @@ makes-as p names path part other stands low high old new same made = record {
       (sym (same w (path_in turns path) t (seen names t))) (made.runs w turns t ready);
 }
 
--- A PART that stands in another way, with earlier declarations, or that goes on in the program alone
+-- A PART that is in another way, with earlier declarations, or that goes on in the program alone
 
 pub makes-weaker : {A : Type 0} (p : Program) (names : Names) (path : List Step) (part : Part A)
     (stands weaker : CodeState → Standing A) (low from high : Types) (old new : List Node) → Grows low from

@@ -1,4 +1,4 @@
--- Code that never leaves a block, and leaves that stand last.
+-- Code that never leaves a block, and leaves that are last.
 use Rattle.std.proofs.Common.{◌≡◌, ℕ, zero, suc, ◌+◌, ◌-◌, ◌⊎◌, inl, inr, ℤ, pos, Bool, true, false, cond, ◌&&◌, ◌==◌, Option, None, Some, Ok, Err, List, [], ◌∷◌, ◌++◌, map, length, take, refl, sym, ◌∙◌, ap, subst, arith}
 use Rattle.std.proofs.lemmas.Bool.{and_parts, eq-eqb, eqb-true, not-true, or_cases}
 use Rattle.std.specs.Ordering.{int_eq}
@@ -251,7 +251,7 @@ module _ (label : ℕ) where
   unblocked nodes h g turns t =
       passed-block label (run_nodes g nodes turns t) (passes-nodes g nodes h turns t)
 
-  -- A LEAVE that stands last
+  -- A LEAVE that is last
 
   run-left : (front : List Node) (g : Setting) (turns : List ℕ) (s : CodeState)
       → run_nodes g (front ++ node.Leave label ∷ []) turns s
@@ -320,7 +320,7 @@ module _ (label : ℕ) where
     runs = λ g turns t. added.runs g turns t ∙ same g turns t;
   }
 
--- the last element of a list stands behind the others
+-- the last element of a list is after the others
 pub before-last : {A : Type 0} (xs : List A) (n : ℕ) (x : A) → length xs ≡ suc n → slice_get xs n ≡ Some x
     → xs ≡ take n xs ++ x ∷ []
 before-last [] n x count found = absurd (let f : None ≡ Some x = found in cc)
@@ -336,7 +336,7 @@ returned-at [] n count found = absurd (let f : None ≡ Some (node.Leave return_
 returned-at (m ∷ nodes) n count found =
     before-last (m ∷ nodes) n (node.Leave return_label) (omega (arith, count)) found
 
--- what is left where a `return` that stood last is taken off
+-- what is left if a `return` that was last is taken off
 pub returned-last : (nodes rest shown : List Node) (count : ℕ) → shown ≡ nodes → length shown ≡ count
     → EndsInReturn shown → rest ≡ take (count - 1) nodes → nodes ≡ rest ++ node.Leave return_label ∷ []
 returned-last nodes rest shown count is many ends taken =

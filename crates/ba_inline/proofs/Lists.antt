@@ -28,7 +28,7 @@ use Rattle.ba_tree.specs.declared.tree.Program.{Program}
 abbrev one_more : {A : Type 0} → Act A → List A → Act (List A)
 one_more part list s = then_do (part s) (λ a. give (list ++ a ∷ []))
 
--- an item before the others, and one behind them
+-- an item before the others, and one after them
 end-more : {A : Type 0} (a : A) (x : Ending A) (list : List A)
     → then_do (then_do x (λ b. give (list ++ b ∷ []))) (λ list. give (a ∷ list)) ≡ then_do x (λ b. give (a
     ∷ (list ++ b ∷ [])))

@@ -300,7 +300,7 @@ module _ (p : Program) (names : Names) (path : List Step) (frame : Frame) (stmt 
         reading (Var to))
         turned_now Fit stays-fit loop-keeps test-meets turn-meets w.turns 1 t ready)
 
-    -- no test comes before the first turn of a `do`
+    -- no test comes before the first iteration of a `do`
     behind-meets : (k : ℕ) (u : CodeState) → Fit u
         → Meets (Gives names c low (value_behind (reading (Var to)) k) u) (test_behind test_now k (seen
         names u))

@@ -29,7 +29,7 @@ use Rattle.ba_tree.specs.declared.tree.Shape.TheVariants as shape
 
 -- WHAT IS LEFT AS IT WAS
 
--- a parameter is given to what comes behind so many
+-- a parameter is given to what comes after so many
 abbrev pub IsOwn : Counts → Param → Type 0
 IsOwn low (Var n) = low.vars ≤ n
 IsOwn low (Array n) = low.arrays ≤ n

@@ -34,8 +34,8 @@ pub ready-choices : (w : World) (d : Types) (t : CodeState) (choices : List Choi
     → IsReady w d (with_choices choices t)
 ready-choices w d t choices ready = record { known = ready.known; sized = ready.sized }
 
--- A statement that gives something by what fits it, and then goes on: its code picks between the code as it
--- is written and what Take does.
+-- A statement with a value that may be chosen, and what it does with the value. Its code picks between the
+-- code as written and what Take does.
 module _ {A C : Type 0} (p : Program) (names : Names) (path : List Step) (stmt : StmtId) (take : Take)
     (written : World → List Step → Act A) (fitting : World → CodeState → List ℤ → Option A)
     (f : World → List Step → A → Act C) (part : Part C) (stands : CodeState → Standing C) (low high : Types)

@@ -37,7 +37,7 @@ use Rattle.ba_tree.specs.declared.tree.Function.{Function}
 use Rattle.ba_tree.specs.declared.tree.Program.{Program}
 use Rattle.ba_tree.specs.declared.tree.Stmt.{Stmt}
 
--- what stays where any of a row makes a call stays where this one does
+-- what stays if any of a row makes a call stays if this one does
 kept-item : {X : Type 0} (f : X → Bool) (xs : List X) (i : ℕ) (x : X) (n : ℕ) (os : List Operand) →
     i < length xs
     → x ≡ get_or xs i x → Stays (list_any f xs) n os → Stays (f x) n os

@@ -1,4 +1,4 @@
--- The program's state through names, where the code's state changes.
+-- The program's state through names, if the code's state changes.
 use Rattle.std.proofs.Common.{◌≡◌, ℕ, zero, suc, ◌<◌, ℤ, pos, cond, None, Some, List, [], ◌∷◌, map, refl, sym, ◌∙◌, ap, subst, arith}
 use Rattle.std.specs.Prelude.{slice_get, slice_index_or, slice_set}
 use Rattle.std.proofs.lemmas.Bool.{eq-eqb, ne_eqb}
@@ -43,7 +43,7 @@ pub outside-new : (count : ℕ) (os : List Operand) → AreBelow count os → Ou
 outside-new count [] below = tt
 outside-new count (o ∷ os) below = (other-new count o below.0, outside-new count os below.1)
 
--- where one stands, it stands nowhere else
+-- where one is, it occurs nowhere else
 pub other-by : (o : Operand) (os : List Operand) (v n : ℕ) → IsNotAmong o os →
     slice_get os v ≡ Some (Var n) → IsOther n o
 other-by o [] v n apart is = absurd (let f : None ≡ Some (Var n) = is in cc)
@@ -91,7 +91,7 @@ module _ (names : Names) (t : CodeState) where
   pub seen-value : (v : VarId) → value_at (seen names t) v ≡ operand_value t (name_of names v)
   seen-value v = operand-at t names.values v.0
 
--- WHAT IS SEEN is the same where what stands below a number is
+-- WHAT IS SEEN is the same if what is below a number is
 
 operands-same : (base : ℕ) (os : List Operand) (t u : CodeState) → AreBelow base os
     → ((n : ℕ) → n < base → u.variables n ≡ t.variables n) → map (operand_value u) os ≡ map (operand_value

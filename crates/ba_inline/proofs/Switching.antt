@@ -45,7 +45,7 @@ use Rattle.ba_tree.specs.declared.tree.Program.{Program}
 use Rattle.ba_tree.specs.declared.tree.Start.{Start}
 use Rattle.ba_tree.specs.declared.tree.Stmt.{Stmt}
 
--- FLAGS are no names, since they are made behind all of these
+-- FLAGS are no names, since they are made after all of these
 
 outside-from : (base n : ℕ) (os : List Operand) → AreBelow base os → base ≤ n → Outside n os
 outside-from base n [] below from = tt
@@ -95,7 +95,7 @@ module _ (p : Program) (names : Names) (path : List Step) (frame : Frame) (low :
     abbrev back : List Step
     back = path_in turns path
 
-    -- the statements behind the label that has this value
+    -- the statements after the label that has this value
     abbrev chosen : ℤ → Act (Flow Exit)
     chosen z s = exec_all (context_in_frame p frame w) back (entered (label_at starts z other) body) s
 

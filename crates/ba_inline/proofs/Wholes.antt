@@ -61,7 +61,7 @@ use Rattle.ba_tree.specs.declared.tree.Function.{Function}
 use Rattle.ba_tree.specs.declared.tree.Program.{Program}
 use Rattle.ba_tree.specs.declared.tree.Stmt.{Stmt}
 
--- THE SAME STATE is seen where what stands below is the same
+-- THE SAME STATE is seen if what is below is the same
 
 operands-same : (count : ℕ) (os : List Operand) (t u : CodeState) → AreBelow count os
     → ((n : ℕ) → n < count → t.variables n ≡ u.variables n) →
@@ -218,7 +218,7 @@ module _ (p : Program) (f : Function) (globals inner : Names) (d dm : Types) (is
           ∙ seen-same globals d cleared begin globals-scope.naming (λ m few. sym (own-param cleared m few))
           (λ m few. sym (own-param-array cleared m few)) (sym (given-choices qs given cleared))
 
-      -- THE FRAME OF MAIN, behind the initialisers of the globals
+      -- THE FRAME OF MAIN, after the initialisers of the globals
 
       module _ (u : CodeState) (keeps : Keeps true (with_home home globals) low begin u) where
         -- what is there with the variables of main as they were where the run began

@@ -1,4 +1,4 @@
--- Nodes that are made of those that stand last.
+-- Nodes that are made of those that are last.
 use Rattle.std.proofs.Common.{◌≡◌, ℕ, Bool, List, [], subst}
 use Rattle.ba_code.specs.declared.nodes.Node.{Node}
 use Rattle.ba_code.specs.declared.nodes.Operand.{Operand}

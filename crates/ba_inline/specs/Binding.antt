@@ -1,4 +1,4 @@
--- How far the frame of a call is bound.
+-- Binding of the variables of a call's frame.
 
 use Rattle.std.specs.Prelude.{◌≡◌, ℕ, ◌<◌, ◌≤◌, ◌⊎◌, pos, false, Some, List, [], ◌∷◌, ◌++◌, map, length, slice_get, slice_index_or, slice_set, Ok}
 use Rattle.ba_code.specs.Meaning.{run_nodes}
@@ -17,12 +17,12 @@ use Rattle.ba_tree.specs.declared.run.Flow.{Flow}
 use Rattle.ba_tree.specs.declared.run.Flow.TheVariants.{Next}
 use Rattle.ba_tree.specs.declared.tree.Program.{Program}
 
--- a list, with what another one had at these variables
+-- a list, with the entries of another list at these variables
 abbrev pub restored : {A : Type 0} → A → List VarId → List A → List A → List A
 restored d [] before now = now
 restored d (v ∷ vs) before now = restored d vs before (slice_set now v.0 (slice_index_or before v.0 d))
 
--- the program's state is seen through the frame's names, behind code that changed no variable of before
+-- the program's state as seen through the frame's names, after code that changed no earlier variable
 pub record Enters (names inner : Names) (low : Types) (t : CodeState) (z : Unit {0}) (s : State) (way :
     Flow ℕ)
     (u : CodeState) : Type 0 where
@@ -30,21 +30,22 @@ pub record Enters (names inner : Names) (low : Types) (t : CodeState) (z : Unit 
   pub sees : s ≡ seen inner u
   pub keeps : Keeps false names low t u
 
--- These variables of the frame are bound, in this order: what the program's state has then, by the code's
--- state before; and the names there.
+-- These variables of the frame are bound, in this order. The program's state is given by the code's state
+-- before, and the names after.
 pub record Binds (p : Program) (names : Names) (own : List VarId) (begun : CodeState → State) (inner : Names)
     (low high : Types) (old new : List Node) : Type 0 where
   pub nodes : List Node
   pub is : new ≡ old ++ nodes
   pub grows : Grows low high
   pub scope : IsScope p inner high
-  -- a name is what it was, or new
+  -- a name is as before, or new
   pub origin : (v n : ℕ) → slice_get inner.values v ≡ Some (Var n)
       → (slice_get names.values v ≡ Some (Var n)) ⊎ (length low.vars ≤ n)
   pub behind : BeginsWith names.arrays inner.arrays
   pub arrays_new : (n : ℕ) → n < length low.arrays → OutsideArrays n names.arrays →
       OutsideArrays n inner.arrays
-  -- what the variables had comes back, where code changes no variable of before that is no name here
+  -- the earlier entries of the variables come back, if code changes no earlier variable but names of this
+  -- frame
   pub hides : (t u : CodeState)
       → ((n : ℕ) → n < length low.vars → Outside n inner.values → u.variables n ≡ t.variables n)
       → restored (pos 0) own (map (operand_value t) names.values) (map (operand_value u) inner.values)

@@ -1,13 +1,15 @@
--- What is declared while code is made: variables with their types, and arrays.
+-- The declarations that inlining makes: variables with their types, and arrays.
 
 use Rattle.std.specs.Prelude.{◌≡◌, ◌≤◌, List, [], ◌∷◌, ◌++◌, length}
 use Rattle.ba_numbers.specs.declared.numbers.CType.{CType}
 use Rattle.ba_code.specs.Types.{Types}
 use Rattle.ba_code.specs.declared.nodes.ArrayInfo.{ArrayInfo}
 
+-- one more variable
 abbrev pub with_var : CType → Types → Types
 with_var t declared = record declared { vars = declared.vars ++ t ∷ [] }
 
+-- one more array
 abbrev pub with_array_info : ArrayInfo → Types → Types
 with_array_info info declared = record declared { arrays = declared.arrays ++ info ∷ [] }
 

@@ -1,4 +1,4 @@
--- What an expression has in its boxes.
+-- The parts of expressions.
 
 use Rattle.std.specs.Prelude.{◌≡◌}
 use Rattle.std.specs.Global.{Box}
@@ -12,7 +12,7 @@ pub record HoldsTwo (form : Box Expr → Box Expr → Expr) (e a b : Expr) : Typ
   pub at_left : a ≡ left.value
   pub at_right : b ≡ right.value
 
--- what decides, and the two of which one is evaluated
+-- a condition, and two operands of which one is evaluated
 pub record HoldsThree (form : Box Expr → Box Expr → Box Expr → Expr) (e when a b : Expr) : Type 0 where
   pub deciding : Box Expr
   pub left : Box Expr

@@ -1,4 +1,4 @@
--- What code leaves as it was.
+-- The frame property: what code leaves as it was.
 
 use Rattle.std.specs.Prelude.{◌≡◌, ℕ, ◌<◌, Bool, true, false, List, length}
 use Rattle.ba_code.specs.State.{CodeState}
@@ -11,10 +11,10 @@ abbrev pub Stays : Bool → ℕ → List Operand → Type 0
 Stays false n os = Unit {0}
 Stays true n os = Outside n os
 
--- Code, with or without calls, that was made from these declarations on, leaves as they were: the variables
--- that were declared before it and are no
--- names, or without calls all of them; the arrays that were declared before it and have no location; and
--- the length of each array.
+-- What code leaves as it was that was made after these declarations:
+-- - the earlier variables that are no names, or all of them if the code makes no call
+-- - the earlier arrays without a location
+-- - the length of each array
 pub record Keeps (calls : Bool) (names : Names) (low : Types) (t u : CodeState) : Type 0 where
   pub variables : (n : ℕ) → n < length low.vars → Stays calls n names.values → u.variables n ≡ t.variables n
   pub arrays : (n : ℕ) → n < length low.arrays → OutsideArrays n names.arrays → u.arrays n ≡ t.arrays n

@@ -11,9 +11,11 @@ use Rattle.ba_code.specs.declared.nodes.Node.TheFolds.{fold-Node}
 use Rattle.ba_inline.specs.Adding.{block_act}
 use Rattle.ba_inline.specs.Making.{return_label}
 
+-- all are true
 abbrev pub all_true : List Bool → Bool
 all_true = list_all (λ b. b)
 
+-- a node never leaves by this label, by its parts
 abbrev pub never_step : ℕ → Node-F Bool → Bool
 never_step label (Node-F.Pick place take keep) = all_true keep.items
 never_step label (Node-F.If when a b) = all_true a.items && all_true b.items
@@ -23,15 +25,15 @@ never_step label (Node-F.Loop after head when body step stmt) =
     all_true head.items && all_true body.items && all_true step.items
 never_step label _ = true
 
--- no leave of this label stands in the node outside of blocks of the label, so it never ends by one
+-- the node has no leave of this label outside of blocks of the label, so it never ends by one
 unfoldable pub never_leaves : ℕ → Node → Bool
 never_leaves label = fold-Node Bool (never_step label)
 
--- nor does any of these
+-- none of these nodes has one
 abbrev pub none_leaves : ℕ → List Node → Bool
 none_leaves label nodes = all_true (map (never_leaves label) nodes)
 
--- a `return` stands last
+-- the last node is a `return`
 abbrev pub EndsInReturn : List Node → Type 0
 EndsInReturn nodes = slice_get nodes (length nodes - 1) ≡ Some (node.Leave return_label)
 

@@ -10,6 +10,7 @@ pub mod Wiping
 pub mod Parts
 pub mod Forms
 pub mod Binding
+pub mod Inlining
 pub mod Invoking
 pub mod Arrays
 pub mod Repeating

@@ -1,4 +1,4 @@
--- What the parts of the inliner make.
+-- What the functions of the inliner make.
 
 use Rattle.std.specs.Prelude.{◌≡◌, ℕ, ◌<◌, ℤ, Bool, true, cond, List, [], ◌∷◌, ◌++◌, map, length}
 use Rattle.ba_code.specs.Meaning.{InTurns, Setting, path_in, run_nodes}
@@ -26,24 +26,23 @@ use Rattle.ba_tree.specs.declared.tree.Program.{Program}
 
 -- NODES
 
--- nodes are put behind others, which do this
+-- nodes are appended that do this
 pub record Adds (old new : List Node) (act : Setting → InTurns) : Type 0 where
   pub nodes : List Node
   pub is : new ≡ old ++ nodes
   pub runs : (g : Setting) (turns : List ℕ) (t : CodeState) → run_nodes g nodes turns t ≡ act g turns t
 
--- a part of a program, by the world, the path to it (innermost step first), and the state of the code
--- before it
+-- a part of a program, by the world, the path to it (innermost step first), and the state of the code before
+-- it
 abbrev pub Part : Type 0 → Type 0
 Part A = World → List Step → CodeState → Act A
 
--- how the state of the program and that of the code stand at the end of a part, from what the part gives
+-- how the states of the program and of the code are related at the end of a part, by what the part gives
 abbrev pub Standing : Type 0 → Type 1
 Standing A = A → State → Flow ℕ → CodeState → Type 0
 
--- Nodes are put behind others. Wherever they are run with these declarations and more, they end as the part
--- ends, and what they
--- give stands so to what the part gives.
+-- Nodes are appended. Wherever they run with these declarations or more, their end meets that of the part,
+-- and the results are related.
 pub record Makes {A : Type 0} (p : Program) (names : Names) (path : List Step) (part : Part A)
     (stands : CodeState → Standing A) (low high : Types) (old new : List Node) : Type 0 where
   pub nodes : List Node
@@ -55,7 +54,7 @@ pub record Makes {A : Type 0} (p : Program) (names : Names) (path : List Step) (
 
 -- VALUES
 
--- What is given is what `read` finds in the code's state, behind code that leaves the rest as it was.
+-- The code's state has the result where `read` finds it. The code leaves the rest as it was.
 pub record Gives {A : Type 0} (names : Names) (calls : Bool) (low : Types) (read : CodeState →
     A) (t : CodeState)
     (a : A) (s : State) (way : Flow ℕ) (u : CodeState) : Type 0 where
@@ -64,25 +63,30 @@ pub record Gives {A : Type 0} (names : Names) (calls : Bool) (low : Types) (read
   pub reads : a ≡ read u
   pub keeps : Keeps calls names low t u
 
+-- the value of an operand after the nodes
 abbrev pub reading : Operand → CodeState → ℤ
 reading o u = operand_value u o
 
+-- the values of operands after the nodes
 abbrev pub reading_all : List Operand → CodeState → List ℤ
 reading_all os u = map (operand_value u) os
 
+-- the values of two operands after the nodes
 abbrev pub reading_two : Operand → Operand → CodeState → ℤ × ℤ
 reading_two a b u = (operand_value u a, operand_value u b)
 
--- an operand that stays as it is: a constant, or a variable that is declared and, where calls come, no name
+-- an operand that stays as it is: a constant, or a declared variable that is no name if calls come
 abbrev pub IsSettled : Bool → Names → Types → Operand → Type 0
 IsSettled calls names declared (Const z) = Unit {0}
 IsSettled calls names declared (Var n) = (n < length declared.vars) × Stays calls n names.values
 
+-- each operand keeps its value
 abbrev pub AreSettled : Bool → Names → Types → List Operand → Type 0
 AreSettled calls names declared [] = Unit {0}
 AreSettled calls names declared (o ∷ os) = IsSettled calls names declared o × AreSettled calls names
     declared os
 
+-- nodes were made that do a part, and an operand then has its value
 pub record MakesValue (p : Program) (names : Names) (path : List Step) (part : Part ℤ) (calls keep : Bool)
     (operand : Operand) (low high : Types) (old new : List Node) : Type 0 where
   pub settled : IsSettled keep names high operand
@@ -95,7 +99,7 @@ pub record MakesValues (p : Program) (names : Names) (path : List Step) (part : 
   pub settled : AreSettled keep names high operands
   pub makes : Makes p names path part (Gives names calls low (reading_all operands)) low high old new
 
--- a value that a variable gets at the end
+-- a variable has the value at the end
 pub record GivesTo (names : Names) (calls : Bool) (low : Types) (to : ℕ) (t : CodeState)
     (z : ℤ) (s : State) (way : Flow ℕ) (u : CodeState) : Type 0 where
   pub before : CodeState
@@ -106,28 +110,33 @@ pub record GivesTo (names : Names) (calls : Bool) (low : Types) (to : ℕ) (t : 
 
 -- ARGUMENTS
 
--- what is given to a parameter
+-- what a call gives to a parameter
 abbrev pub argument_in : CodeState → Given → Argument
 argument_in t (given.Value o) = Argument.Value (operand_value t o)
 argument_in t (given.Array location) = Argument.Array location
 
+-- the arguments that operands and arrays give after the nodes
 abbrev pub reading_arguments : List Given → CodeState → List Argument
 reading_arguments gives u = map (argument_in u) gives
 
+-- a given argument keeps its value
 abbrev pub IsGiven : Bool → Names → Types → Given → Type 0
 IsGiven keep names declared (given.Value o) = IsSettled keep names declared o
 IsGiven keep names declared (given.Array location) = Unit {0}
 
+-- each given argument keeps its value
 abbrev pub AreGiven : Bool → Names → Types → List Given → Type 0
 AreGiven keep names declared [] = Unit {0}
 AreGiven keep names declared (g ∷ gs) = IsGiven keep names declared g × AreGiven keep names declared gs
 
+-- nodes were made that do an argument, which is then given so
 pub record MakesArgument (p : Program) (names : Names) (path : List Step) (part : Part Argument) (calls
     keep : Bool)
     (gives : Given) (low high : Types) (old new : List Node) : Type 0 where
   pub given : IsGiven keep names high gives
   pub makes : Makes p names path part (Gives names calls low (λ u. argument_in u gives)) low high old new
 
+-- nodes were made that do arguments, which are then given so
 pub record MakesArguments (p : Program) (names : Names) (path : List Step) (part : Part (List Argument))
     (calls keep : Bool)
     (gives : List Given) (low high : Types) (old new : List Node) : Type 0 where
@@ -136,15 +145,16 @@ pub record MakesArguments (p : Program) (names : Names) (path : List Step) (part
 
 -- STATEMENTS
 
--- the labels of blocks: a `return` leaves the function's, a `break` the loop's, a `continue` the body's;
--- outside of loops each leaves the
--- function's
+-- The labels of blocks. A `return` leaves the function's block, a `break` the loop's, a `continue` the
+-- body's. Outside of loops each leaves the function's.
 abbrev pub return_label : ℕ
 return_label = 0
 
+-- the label of a `break`, 0 where none may come
 abbrev pub break_label : Exits → ℕ
 break_label exits = cond exits.breaks 1 0
 
+-- the label of a `continue`, 0 where none may come
 abbrev pub continue_label : Exits → ℕ
 continue_label exits = cond exits.continues 2 0
 
@@ -152,12 +162,11 @@ continue_label exits = cond exits.continues 2 0
 abbrev pub body_exits : Exits
 body_exits = record { breaks = true; continues = true }
 
--- in its step, of a whole turn, and in the body of a `switch`
+-- in the step of a loop, in a whole iteration, and in the body of a `switch`
 abbrev pub turn_exits : Exits → Exits
 turn_exits exits = record { breaks = true; continues = exits.continues }
 
--- The ways to leave. A value that is returned is in the variable `home`, which any other way leaves as it
--- was.
+-- The ways to leave. A returned value is in the variable `home`, which any other way leaves as it was.
 abbrev pub SameFlow : Exits → ℕ → CodeState → Flow Exit → Flow ℕ → CodeState → Type 0
 SameFlow exits home t Next Next u = u.variables home ≡ t.variables home
 SameFlow exits home t Next (Leaves label) u = ⊥
@@ -168,6 +177,7 @@ SameFlow exits home t (Leaves Continue) (Leaves label) u =
     (label ≡ continue_label exits) × (u.variables home ≡ t.variables home)
 SameFlow exits home t (Leaves (Return z)) (Leaves label) u = (label ≡ return_label) × (z ≡ u.variables home)
 
+-- the nodes did what a statement does: flow, state and result
 pub record Does (names : Names) (exits : Exits) (home : ℕ) (low : Types) (t : CodeState)
     (flow : Flow Exit) (s : State) (way : Flow ℕ) (u : CodeState) : Type 0 where
   pub flows : SameFlow exits home t flow way u

@@ -10,9 +10,8 @@ use Rattle.ba_tree.specs.declared.run.Allowed.{Allowed}
 use Rattle.ba_tree.specs.declared.run.Input.{Input}
 use Rattle.ba_tree.specs.declared.tree.Program.{Program}
 
--- For every input that fits the parameters of main, every bound on turns, whatever may be relaxed, and for all
--- choices: the tree has the outcome of the program, whose calls are followed through so many frames, where the
--- same executions may be relaxed.
+-- The tree has the outcome of the program with at most `frames` frames active. This holds for all inputs that
+-- fit main, all bounds on iterations, all that may be relaxed, and all choices.
 abbrev pub HasOutcomes : Program → ℕ → LoopTree → Type 0
 HasOutcomes p frames tree = (input : Input) (turns : ℕ) (allowed : Allowed) (choices : List Choice)
     → fits p input ≡ true

@@ -1,4 +1,4 @@
--- What a loop of the inliner is made of.
+-- The code of a loop.
 
 use Rattle.std.specs.Prelude.{ℕ, Bool, List, []}
 use Rattle.ba_code.specs.declared.nodes.Node.{Node}
@@ -10,10 +10,11 @@ use Rattle.ba_numbers.specs.declared.ids.StmtId.{StmtId}
 use Rattle.ba_tree.specs.declared.tree.Expr.{Expr}
 use Rattle.ba_tree.specs.declared.tree.Stmt.{Stmt}
 
+-- the parts of a loop
 abbrev pub parts_of : Bool → StmtId → Expr → Stmt → List Stmt → LoopParts
 parts_of after stmt when body step = record { after = after; stmt = stmt; when = when; body = body; step = step }
 
--- a loop is put behind others: in a block that a `break` leaves, its body in one that a `continue` leaves
+-- a loop is appended, in a block that a `break` leaves; its body is in a block that a `continue` leaves
 pub record AddsLoop (after : Bool) (stmt : StmtId) (to : ℕ) (heads bodies steps old new : List Node) :
     Type 0 where
   pub turned : List Node

@@ -22,6 +22,7 @@ use Rattle.ba_tree.specs.declared.tree.Program.{Program}
 use Rattle.ba_tree.specs.declared.tree.Start.{Start}
 use Rattle.ba_tree.specs.declared.tree.Stmt.{Stmt}
 
+-- a `switch`
 abbrev pub switch_part : Program → Frame → StmtId → CType → Expr → List Start → Option ℕ → List Stmt → Part
     (Flow Exit)
 switch_part p frame stmt t on starts other body w path _ s =
@@ -29,20 +30,20 @@ switch_part p frame stmt t on starts other body w path _ s =
     (λ z s. then_do (exec_all (context_in_frame p frame w) path (entered (label_at starts z other) body) s)
     (λ flow. give (flow_after_loop flow)))
 
--- statements in a row, each where its value isn't 0
+-- statements in a row, each executed if its value isn't 0
 abbrev pub guarded_row : Context → List Step → List Stmt → List ℤ → Execution
 guarded_row x path [] zs s = (Ok Next, s)
 guarded_row x path (stmt ∷ body) [] s = (Ok Next, s)
 guarded_row x path (stmt ∷ body) (z ∷ zs) s =
     then_do (fork (exec x stmt path) (give Next) z s) (after_part (guarded_row x path body zs))
 
--- by flags that the code has before the first of them
+-- the same by flags that the code has before the first of them
 abbrev pub guarded_part : Program → Frame → List Stmt → List Operand → Part (Flow Exit)
 guarded_part p frame body flags w path t =
     guarded_row (context_in_frame p frame w) path body (map (operand_value t) flags)
 
--- The group of a statement is the one before, which has its flag; or a new one, and the one before is put behind the
--- nodes, to be run where its own flag isn't 0.
+-- The group of a statement with this flag. It is the group before, if the flag is the same. Else it is a new
+-- one, and the group before is appended, to run if its own flag isn't 0.
 pub data GoesOn (flag when next_when : Operand) (nodes next old new : List Node) : Type 0 where
   same : flag ≡ when → next_when ≡ when → next ≡ nodes → new ≡ old → GoesOn flag when next_when nodes next
       old new

@@ -1,4 +1,4 @@
--- What the code of a whole program keeps before it is tested.
+-- What holds of the code of a whole program before it is tested.
 
 use Rattle.std.specs.Prelude.{◌≡◌, ℕ, true, List, map}
 use Rattle.ba_choices.specs.declared.Choice.{Choice}
@@ -14,14 +14,13 @@ use Rattle.ba_tree.specs.declared.run.Allowed.{Allowed}
 use Rattle.ba_tree.specs.declared.run.Input.{Input}
 use Rattle.ba_tree.specs.declared.tree.Program.{Program}
 
--- the parts with so many variables
+-- the parts with this number of variables
 abbrev pub code_with : ℕ → Types → List Param → List Node → Code
 code_with vars declared params body =
     record { vars = vars; arrays = declared.arrays; params = params; body = body }
 
--- The nodes have the outcomes of the program, where operators take their operands as they are; and a run
--- begins with numbers of the
--- types that are declared.
+-- With plain operators the nodes have the outcomes of the program. At the start all variables have numbers of
+-- their types.
 pub record IsTranslation (p : Program) (frames : ℕ) (declared : Types) (params : List Param) (body : List
     Node) : Type 0 where
   pub outcomes : (vars : ℕ) (input : Input) (turns : ℕ) (allowed : Allowed) (choices : List Choice)

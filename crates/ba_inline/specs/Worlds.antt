@@ -1,4 +1,4 @@
--- What stands still in a run of a program and of its code, and is the same for both.
+-- What stays the same in a run of a program and of its code, and is the same for both.
 
 use Rattle.std.specs.Prelude.{◌≡◌, ℕ, Option, List, length}
 use Rattle.ba_numbers.specs.declared.numbers.CType.{CType}
@@ -14,12 +14,13 @@ use Rattle.ba_tree.specs.Run.{call_at}
 use Rattle.ba_tree.specs.declared.run.Allowed.{Allowed}
 use Rattle.ba_tree.specs.declared.tree.Program.{Program}
 
--- what may be relaxed, how many turns each entry of a loop may have, and all arrays of the code
+-- what may be relaxed, the bound on iterations, and all arrays of the code
 pub record World : Type 0 where
   pub allowed : Allowed
   pub turns : ℕ
   pub arrays : List ArrayInfo
 
+-- what stays the same in a run of the code in this world
 unfoldable pub code_setting : Program → World → Setting
 code_setting p w = record {
   relaxes = admits p w.allowed;
@@ -28,7 +29,7 @@ code_setting p w = record {
   operators = plain;
 }
 
--- in a function that returns this type, where so many more frames may begin
+-- the context in a function that returns this type, if this number of frames may still begin
 unfoldable pub context_with : Program → World → Option CType → ℕ → Context
 context_with p w result frames = record {
   program = p;
@@ -38,7 +39,7 @@ context_with p w result frames = record {
   calls = call_at p w.allowed w.turns frames;
 }
 
--- the arrays of the code are those declared so far and more, and each has as many elements as is declared
+-- the arrays of the code are those declared so far and more, each with as many elements as declared
 pub record IsReady (w : World) (declared : Types) (t : CodeState) : Type 0 where
   pub known : BeginsWith declared.arrays w.arrays
   pub sized : (n : ℕ) → length (t.arrays n) ≡ (info_at w.arrays n).len

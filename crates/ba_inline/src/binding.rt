@@ -1,4 +1,4 @@
-//! The frames of calls, and the variables that a run begins with.
+//! Frames of calls, and the variables at the start of a run.
 
 ghost use Rattle.std.specs.Prelude.{◌≡◌, ◌++◌, ◌∷◌, [], pos, false, List, replicate, IfOk, OnOk};
 ghost use Rattle.ba_code.specs.State.{CodeState};
@@ -22,7 +22,7 @@ use ba_tree::lookup::variable_of;
 use ba_tree::tree::{Function, Shape};
 use std::alloc::{AllocError, Global};
 
-/// So many constants 0.
+/// The operand 0, `count` times.
 pub fn zeros(alloc: Global, count: u32) -> Result<Vec<Operand>, AllocError>
     ensures { IfOk result (λ zeros. zeros.items ≡ replicate count (Operand.Const (pos 0))) }
 {
@@ -69,7 +69,7 @@ fn bind_one(
     }
 }
 
-/// A variable begins as 0, and an array in a location of its own.
+/// A variable begins as 0, and an array with a new location.
 fn begin_one(
     setting: &Setting,
     scope: &mut Scope,
@@ -142,7 +142,7 @@ fn bind_all(
     Ok(())
 }
 
-/// Variables begin as 0, and arrays in locations of their own.
+/// Variables begin as 0, and arrays with new locations.
 pub fn begin_all(
     setting: &Setting,
     scope: &mut Scope,
@@ -165,7 +165,7 @@ pub fn begin_all(
     Ok(())
 }
 
-/// The frame of a function that was given these arguments.
+/// Begins the frame of a function with these arguments.
 #[inline(never)]
 pub fn begin_frame(
     setting: &Setting,

@@ -1,4 +1,4 @@
-//! Blocks and leaves that need not be: a `return` that stands at the end of a function's body.
+//! Blocks and leaves that can be left out: a `return` at the end of a function's body.
 
 ghost use Rattle.std.specs.Prelude.{◌≡◌, ◌++◌, length, List, OnOk};
 ghost use Rattle.std.specs.Bool.{OnTrue};
@@ -62,7 +62,7 @@ fn none_leaves(label: u32, nodes: &[Node]) -> bool
     true
 }
 
-/// Whether a `return` stands last.
+/// Whether the last node is a `return`.
 fn ends_in_return(nodes: &[Node]) -> bool
     ensures { OnTrue result (EndsInReturn nodes.now) }
 {
@@ -72,7 +72,7 @@ fn ends_in_return(nodes: &[Node]) -> bool
     }
 }
 
-/// The nodes of a function's block without a `return` that stands last.
+/// The nodes of a function's block without a `return` at the end.
 fn without_last_return(mut nodes: Vec<Node>) -> Vec<Node>
     ensures { AreSameBlock return_label result.items nodes.items }
 {
@@ -82,7 +82,8 @@ fn without_last_return(mut nodes: Vec<Node>) -> Vec<Node>
     nodes
 }
 
-/// The body of a function: a block that each `return` in it leaves, or where none stands before the end, its nodes alone.
+/// Appends the body of a function: a block for its `return`s, or its nodes alone if none comes before the
+/// end.
 #[inline(never)]
 pub fn add_body(out: &mut Vec<Node>, body: Vec<Node>) -> Result<(), AllocError>
     ensures { OnOk result (Adds out.old.items out.new.items (block_act return_label body.items)) }
@@ -101,7 +102,7 @@ pub fn add_body(out: &mut Vec<Node>, body: Vec<Node>) -> Result<(), AllocError>
     Ok(())
 }
 
-/// The one or the other. A `return` that ends both stands once, behind them.
+/// Appends a branch. A `return` that ends both sides occurs once, after them.
 #[inline(never)]
 pub fn add_branches(
     out: &mut Vec<Node>,
@@ -120,7 +121,8 @@ pub fn add_branches(
     add(out, Node::Leave { label: RETURNED })
 }
 
-/// The nodes from one place on, and from another, become the sides of a branch. A `return` that ends both stands once, behind them.
+/// Makes a branch of the last nodes: one side begins at one index, the other at another. A `return` that ends
+/// both occurs once, after them.
 #[inline(never)]
 pub fn wrap_branches(
     alloc: Global,
@@ -138,7 +140,7 @@ pub fn wrap_branches(
     add_branches(out, when, yes, no)
 }
 
-/// The nodes from this place on become the body of a block.
+/// Makes the nodes from this index on the body of a block.
 #[inline(never)]
 pub fn wrap_block(
     alloc: Global,
@@ -153,8 +155,8 @@ pub fn wrap_block(
     add_block(out, label, body)
 }
 
-/// The nodes from three places on become a loop: what comes before each condition, the body, and the step. A `break` leaves the block
-/// around it, and a `continue` that of its body.
+/// Makes a loop of the nodes from three indices on: head, body, and step. A `break` leaves the block around
+/// it, and a `continue` that of its body.
 #[inline(never)]
 pub fn wrap_loop(
     alloc: Global,

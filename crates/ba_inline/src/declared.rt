@@ -1,4 +1,4 @@
-//! What the code declares.
+//! The declarations of the code.
 
 ghost use Rattle.std.specs.Prelude.{◌≡◌, [], length, slice_get, IfOk, OnOk};
 ghost use Rattle.ba_inline.specs.Declarations.{with_array_info, with_var};
@@ -10,8 +10,8 @@ use ba_numbers::numbers::CType;
 use std::alloc::{AllocError, Global};
 use std::marker::Model;
 
-/// The variables of the code, by their types, and its arrays. Those that are made keep their numbers. Variables that are still read, or may
-/// have been left with a value, are `in_use`.
+/// The variables of the code, by their types, and its arrays, by number. A variable is in `in_use` if it is
+/// still read, or may not be 0 yet.
 pub struct Declared {
     vars: Vec<CType>,
     arrays: Vec<ArrayInfo>,
@@ -46,14 +46,14 @@ pub struct Counts {
     pub arrays: usize,
 }
 
-/// A moment: how many variables are declared, and how many of them are in use.
+/// A moment of the translation: how many variables are declared, and how many of them are in use.
 #[derive(Clone, Copy)]
 pub struct Moment {
     pub vars: usize,
     pub in_use: usize,
 }
 
-/// The number of the part that comes next in a list. Numbers have 32 bits; past them the answer is that for want of memory.
+/// The number of the next entry of a list. Numbers have 32 bits; past them the answer is out of memory.
 fn next_number(count: usize) -> Result<u32, AllocError>
     ensures { IfOk result (λ number. number ≡ count) }
 {
@@ -65,7 +65,7 @@ fn next_number(count: usize) -> Result<u32, AllocError>
 }
 
 impl Declared {
-    /// Nothing is declared.
+    /// No declarations.
     pub fn new(alloc: Global) -> Declared
         ensures { result ≡ record { vars = []; arrays = [] } }
     {
@@ -76,7 +76,8 @@ impl Declared {
         }
     }
 
-    /// Declares a variable that holds numbers of the type, and gives its number. Who declares it sets it to 0 when it is read no more.
+    /// Declares a variable that holds numbers of the type, and gives its number. The caller sets it to 0 when
+    /// it is read no more.
     #[inline(never)]
     pub fn own_variable(&mut self, t: CType) -> Result<u32, AllocError>
         ensures { IfOk result (λ number. (number ≡ length self.old.vars)
@@ -116,7 +117,7 @@ impl Declared {
         }
     }
 
-    /// Sets to 0 what was declared since a moment and is in use, but for one variable.
+    /// Appends nodes that set to 0 the variables declared since a moment that are in use, except `kept`.
     #[inline(never)]
     pub fn wipe(&self, since: Moment, kept: u32, out: &mut Vec<Node>) -> Result<(), AllocError>
         ensures { OnOk result (Wipes since.vars kept out.old.items out.new.items) }
@@ -128,7 +129,8 @@ impl Declared {
         wipe_all(since.vars, kept, out, dead)
     }
 
-    /// Sets to 0 what was declared since a moment and is in use, but for one variable: it is in use no more.
+    /// Appends nodes that set to 0 the variables declared since a moment that are in use, except `kept`. They
+    /// are then in use no more.
     #[inline(never)]
     pub fn give_back(
         &mut self,
@@ -195,7 +197,7 @@ impl Declared {
         self.arrays.as_slice()
     }
 
-    /// Gives the arrays alone.
+    /// The arrays, without the variables.
     pub fn into_arrays(self) -> Vec<ArrayInfo>
         ensures { result.items ≡ self.arrays }
     {
@@ -208,7 +210,7 @@ impl Declared {
     }
 }
 
-/// Sets variables to 0 that have this number or a later one, but for one of them.
+/// Appends nodes that set to 0 these variables, if their number is at least `from`, except `kept`.
 fn wipe_all(from: usize, kept: u32, out: &mut Vec<Node>, numbers: &[u32]) -> Result<(), AllocError>
     ensures { OnOk result (Wipes from kept out.old.items out.new.items) }
 {
@@ -218,7 +220,7 @@ fn wipe_all(from: usize, kept: u32, out: &mut Vec<Node>, numbers: &[u32]) -> Res
     Ok(())
 }
 
-/// Sets a variable to 0 if it has this number or a later one, and isn't the one.
+/// Appends a node that sets a variable to 0, if its number is at least `from` and not `kept`.
 fn wipe_one(from: usize, kept: u32, out: &mut Vec<Node>, number: u32) -> Result<(), AllocError>
     ensures { OnOk result (Wipes from kept out.old.items out.new.items) }
 {

@@ -1,4 +1,4 @@
-//! Nodes that are put behind others.
+//! Functions that append nodes.
 
 ghost use Rattle.std.specs.Prelude.{◌≡◌, ◌++◌, ◌∷◌, [], pos, length, List, IfOk, OnOk};
 ghost use Rattle.ba_code.specs.declared.nodes.Node.{Node};
@@ -13,7 +13,7 @@ use ba_numbers::numbers::{BinOp, CType, UnOp};
 use ba_tree::run::{Place, Step};
 use std::alloc::{AllocError, Global};
 
-/// Puts a node behind the others.
+/// Appends a node.
 pub fn add(out: &mut Vec<Node>, node: Node) -> Result<(), AllocError>
     ensures { OnOk result (out.new.items ≡ out.old.items ++ node ∷ []) }
 {
@@ -21,7 +21,7 @@ pub fn add(out: &mut Vec<Node>, node: Node) -> Result<(), AllocError>
     Ok(())
 }
 
-/// The nodes from this place on, which are taken off.
+/// Removes the nodes from this index on, and gives them.
 #[inline(never)]
 pub fn taken_off(alloc: Global, out: &mut Vec<Node>, place: usize) -> Result<Vec<Node>, AllocError>
     ensures { IfOk result (λ nodes. (old made : List Node) → place ≡ length old
@@ -33,7 +33,7 @@ pub fn taken_off(alloc: Global, out: &mut Vec<Node>, place: usize) -> Result<Vec
     out.split_off(place)
 }
 
-/// A variable gets the value of an operand.
+/// Appends: a variable gets the value of an operand.
 #[inline(never)]
 pub fn add_set(out: &mut Vec<Node>, to: u32, from: Operand) -> Result<(), AllocError>
     ensures { OnOk result (out.new.items ≡ out.old.items ++ node.Set to from ∷ []) }
@@ -41,7 +41,7 @@ pub fn add_set(out: &mut Vec<Node>, to: u32, from: Operand) -> Result<(), AllocE
     add(out, Node::Set { to, from })
 }
 
-/// A variable gets the value of a unary operator.
+/// Appends: a variable gets the value of a unary operator.
 #[inline(never)]
 pub fn add_unary(
     out: &mut Vec<Node>,
@@ -55,7 +55,7 @@ pub fn add_unary(
     add(out, Node::Unary { to, op, t, a })
 }
 
-/// A variable gets the value of a binary operator.
+/// Appends: a variable gets the value of a binary operator.
 #[inline(never)]
 pub fn add_binary(
     out: &mut Vec<Node>,
@@ -81,7 +81,7 @@ pub fn add_binary(
     )
 }
 
-/// A variable gets the value of an operand, converted to a type.
+/// Appends: a variable gets the value of an operand, converted to a type.
 #[inline(never)]
 pub fn add_convert(out: &mut Vec<Node>, to: u32, t: CType, a: Operand) -> Result<(), AllocError>
     ensures { OnOk result (out.new.items ≡ out.old.items ++ node.Convert to t a ∷ []) }
@@ -89,7 +89,7 @@ pub fn add_convert(out: &mut Vec<Node>, to: u32, t: CType, a: Operand) -> Result
     add(out, Node::Convert { to, t, a })
 }
 
-/// A variable gets an element of an array.
+/// Appends: a variable gets an element of an array.
 #[inline(never)]
 pub fn add_load(
     out: &mut Vec<Node>,
@@ -111,7 +111,7 @@ pub fn add_load(
     )
 }
 
-/// The one or the other is done.
+/// Appends a branch.
 #[inline(never)]
 pub fn add_if(
     out: &mut Vec<Node>,
@@ -124,7 +124,7 @@ pub fn add_if(
     add(out, Node::If { when, yes, no })
 }
 
-/// A block that a leave of its label ends.
+/// Appends a block that a leave of its label ends.
 #[inline(never)]
 pub fn add_block(out: &mut Vec<Node>, label: u32, body: Vec<Node>) -> Result<(), AllocError>
     ensures { OnOk result (out.new.items ≡ out.old.items ++ node.Block label body ∷ []) }
@@ -132,7 +132,7 @@ pub fn add_block(out: &mut Vec<Node>, label: u32, body: Vec<Node>) -> Result<(),
     add(out, Node::Block { label, body })
 }
 
-/// A block of this label is left.
+/// Appends a leave of the block of this label.
 #[inline(never)]
 pub fn add_leave(out: &mut Vec<Node>, label: u32) -> Result<(), AllocError>
     ensures { OnOk result (out.new.items ≡ out.old.items ++ node.Leave label ∷ []) }
@@ -140,7 +140,7 @@ pub fn add_leave(out: &mut Vec<Node>, label: u32) -> Result<(), AllocError>
     add(out, Node::Leave { label })
 }
 
-/// A value is required not to be 0.
+/// Appends an assertion that a value isn't 0.
 #[inline(never)]
 pub fn add_assert(out: &mut Vec<Node>, when: Operand, stmt: StmtId) -> Result<(), AllocError>
     ensures { OnOk result (out.new.items ≡ out.old.items ++ node.Assert when stmt ∷ []) }
@@ -148,7 +148,7 @@ pub fn add_assert(out: &mut Vec<Node>, when: Operand, stmt: StmtId) -> Result<()
     add(out, Node::Assert { when, stmt })
 }
 
-/// A variable is set to 0.
+/// Appends: a variable gets 0.
 #[inline(never)]
 pub fn add_zero(out: &mut Vec<Node>, to: u32) -> Result<(), AllocError>
     ensures { OnOk result (Adds out.old.items out.new.items (set_act to (Operand.Const (pos 0)))) }
@@ -160,7 +160,7 @@ pub fn add_zero(out: &mut Vec<Node>, to: u32) -> Result<(), AllocError>
     Ok(())
 }
 
-/// An execution of a statement, reached by this path, that may be relaxed.
+/// Appends an execution of a statement that may be relaxed, with this path.
 #[inline(never)]
 pub fn add_pick(
     alloc: Global,

@@ -73,7 +73,7 @@ pub fn type_of(program: &Program, expr: &Expr) -> CType
     }
 }
 
-/// The type of what a function gives, and `I32` where it gives nothing.
+/// The type that a function returns, and `I32` for `void`.
 pub fn result_of(program: &Program, function: FnId) -> CType
     ensures { result ≡ unwrap_or (result_at (parts_of program.now) function) I32 }
 {

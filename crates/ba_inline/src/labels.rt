@@ -1,4 +1,4 @@
-//! Where a `switch` is entered, as flags of the code: variables that have 0 or 1.
+//! The entry of a `switch` by flags of the code, which are variables that have 0 or 1.
 
 ghost use Rattle.std.specs.Prelude.{◌≡◌, ℕ, ◌≤◌, ◌∷◌, [], map, length, pos, slice_index_or, IfOk, OnOk};
 ghost use Rattle.std.specs.Bool.{OnTrue};
@@ -24,7 +24,8 @@ use ba_numbers::numbers::{BinOp, CType, UnOp};
 use ba_tree::tree::Start;
 use std::alloc::{AllocError, Global};
 
-/// What the labels of a `switch` are: its controlling expression, its type, the `case` labels, and where `default` stands.
+/// The labels of a `switch`: its controlling expression, its type, the `case` labels, and the index of
+/// `default`.
 #[derive(Clone, Copy)]
 pub struct Labels<'a> {
     pub stmt: StmtId,
@@ -53,7 +54,7 @@ fn values_differ(starts: &[Start]) -> bool
     true
 }
 
-/// The flag that has whether an operand has the value of a label.
+/// A flag that tells whether an operand has the value of a label.
 fn equals(
     declared: &mut Declared,
     out: &mut Vec<Node>,
@@ -91,7 +92,7 @@ fn is_never(operand: Operand) -> bool
     }
 }
 
-/// The flag that has whether one of two flags is set.
+/// A flag that tells whether one of two flags is set.
 fn either(
     declared: &mut Declared,
     out: &mut Vec<Node>,
@@ -122,7 +123,7 @@ fn either(
     Ok(Operand::Var(to))
 }
 
-/// The flags that have for each label whether an operand has its value.
+/// For each label, a flag that tells whether an operand has its value.
 fn tests(
     alloc: Global,
     declared: &mut Declared,
@@ -142,7 +143,7 @@ fn tests(
     Ok(tests)
 }
 
-/// The flag that has whether none of these flags is set.
+/// A flag that tells whether none of these flags is set.
 fn none_of(
     declared: &mut Declared,
     out: &mut Vec<Node>,
@@ -171,7 +172,7 @@ fn none_of(
     Ok(Operand::Var(to))
 }
 
-/// The flag that has whether none of the tests of the labels passes. Without a `default` it isn't asked.
+/// A flag that tells whether none of the tests of the labels passes. It is only used if there is a `default`.
 fn default_flag(
     declared: &mut Declared,
     out: &mut Vec<Node>,
@@ -190,7 +191,7 @@ fn default_flag(
     }
 }
 
-/// The first flag, or where this holds the flag that has whether one of both is set.
+/// The first flag; or, if the condition holds, a flag that tells whether one of both is set.
 fn either_where(
     declared: &mut Declared,
     out: &mut Vec<Node>,
@@ -211,7 +212,7 @@ fn either_where(
     Ok(a)
 }
 
-/// Whether `default` stands at a place.
+/// Whether `default` is at an index.
 fn stands_at(other: Option<u32>, place: usize) -> bool
     ensures { result ≡ stands_at other place }
 {
@@ -221,7 +222,8 @@ fn stands_at(other: Option<u32>, place: usize) -> bool
     }
 }
 
-/// The flag that has whether the `switch` is entered before a place, or at the place: a flag for the first of the two is there.
+/// A flag that tells whether the `switch` is entered before an index, or at it. `before` is the flag for the
+/// first of these.
 fn joined(
     declared: &mut Declared,
     out: &mut Vec<Node>,
@@ -248,8 +250,8 @@ fn joined(
     either_where(declared, out, labels.stmt, is_here, flag, none)
 }
 
-/// The flags that have for each of so many statements whether the `switch` is entered before it. In a program no two labels have the same
-/// value.
+/// For each of `count` statements, a flag that tells whether the `switch` is entered before it. In a program
+/// no two labels have the same value.
 #[inline(never)]
 pub fn entry_flags(
     alloc: Global,
@@ -280,7 +282,7 @@ pub fn entry_flags(
     Ok(flags)
 }
 
-/// The flag of the statement at this place.
+/// The flag of the statement at this index.
 pub fn flag_at(flags: &[Operand], place: usize) -> Operand
     ensures { result ≡ slice_index_or flags.now place (Operand.Const (pos 0)) }
 {
@@ -290,14 +292,15 @@ pub fn flag_at(flags: &[Operand], place: usize) -> Operand
     }
 }
 
-/// Nodes that are to be run where a flag is set.
+/// Nodes that run if a flag is set.
 #[derive(Drop)]
 pub struct Group {
     pub when: Operand,
     pub nodes: Vec<Node>,
 }
 
-/// The group to which what is run by this flag belongs: the same one, or a new one, and then the other is put behind the nodes.
+/// The group of the nodes that run by this flag. It is the present group if the flag is the same. Else it is
+/// a new one, and the present group is appended.
 pub fn group_for(
     alloc: Global,
     out: &mut Vec<Node>,
@@ -318,7 +321,7 @@ pub fn group_for(
     })
 }
 
-/// Puts nodes behind others, to be run where a flag is set.
+/// Appends nodes, to run if a flag is set.
 #[inline(never)]
 pub fn add_where(
     alloc: Global,

@@ -1,4 +1,4 @@
-//! The parts of the inliner that make no other part.
+//! The functions of the inliner that are no part of its recursion.
 
 ghost use Rattle.std.specs.Prelude.{◌≡◌, ◌++◌, ◌∷◌, [], pos, ℕ, replicate, List, IfOk, OnOk};
 ghost use Rattle.ba_inline.specs.Arrays.{IsArrayOf};
@@ -30,8 +30,8 @@ pub fn extended(alloc: Global, path: &[Step], step: Step) -> Result<Vec<Step>, A
     Ok(inside)
 }
 
-/// The code's array for an array variable, and how many elements it has. It has elements of the variable's type; in a program it
-/// always does.
+/// The code's array for an array variable, and how many elements it has. Its elements have the variable's
+/// type; in a program it always exists.
 pub fn array_of(
     setting: &Setting,
     scope: &Scope,
@@ -48,7 +48,7 @@ pub fn array_of(
     }
 }
 
-/// The values, and constants 0 up to this number.
+/// The values, followed by constants 0 up to length `len`.
 pub fn filled_up(values: Vec<Operand>, len: u32) -> Result<Vec<Operand>, AllocError>
     ensures { IfOk result (λ filled. (count : ℕ)
         × (filled.items ≡ values.items ++ replicate count (Operand.Const (pos 0)))) }

@@ -1,6 +1,7 @@
-//! Inlining: a program without calls that has the outcomes of a program.
+//! Procedure inlining: from typed C to three-address code without calls.
 //!
-//! [`inline`] puts the body of its function in place of each call, down to a bound on frames, and makes the order of evaluation explicit.
+//! [`inline`] replaces each call by the body of its function, down to a bound on frames, and makes the order
+//! of evaluation explicit. The code has the outcomes of the program.
 #![tactic(auto)]
 
 mod binding;

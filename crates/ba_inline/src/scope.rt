@@ -1,4 +1,4 @@
-//! Where the code keeps what a program's state has.
+//! Where the code keeps the parts of a program's state.
 
 ghost use Rattle.std.specs.Prelude.{◌≡◌, ◌++◌, ◌∷◌, [], pos, Some, length, replicate, slice_get, IfOk, OnOk};
 ghost use Rattle.ba_inline.specs.Names.{array_of, location_at, name_of, with_location, with_name};
@@ -8,7 +8,8 @@ use ba_numbers::ids::VarId;
 use std::alloc::{AllocError, Global};
 use std::marker::Model;
 
-/// What each variable of the program reads as, the location of each array variable, and the code's array for each location.
+/// The operand of each variable of the program, the location of each array variable, and the code's array for
+/// each location.
 pub struct Scope {
     values: Vec<Operand>,
     locations: Vec<u32>,
@@ -38,7 +39,7 @@ impl Model for Scope {
 }
 
 impl Scope {
-    /// So many variables, none of which is in use, and no array.
+    /// A scope with this many variables, none of which is in use, and no array.
     pub fn new(alloc: Global, variables: usize) -> Result<Scope, AllocError>
         ensures { IfOk result (λ scope. scope ≡ record {
           values = replicate variables (Operand.Const (pos 0));
@@ -53,7 +54,7 @@ impl Scope {
         })
     }
 
-    /// The same once more.
+    /// Another copy of the scope.
     pub fn copy(&self, alloc: Global) -> Result<Scope, AllocError>
         ensures { IfOk result (λ copy. copy ≡ self.now) }
     {
@@ -64,7 +65,7 @@ impl Scope {
         })
     }
 
-    /// What a variable reads as.
+    /// The operand of a variable.
     pub fn value(&self, var: VarId) -> Operand
         ensures { result ≡ name_of self.now var }
     {
@@ -74,7 +75,7 @@ impl Scope {
             .unwrap_or(Operand::Const(0))
     }
 
-    /// The code's variable for a variable that is in use. Each variable that a program assigns to is.
+    /// The code's variable for a variable that is in use. Each variable that a program assigns to is in use.
     pub fn variable(&self, var: VarId) -> Result<u32, AllocError>
         ensures { IfOk result (λ number. slice_get self.now.values var.0
             ≡ Some (Operand.Var number)) }
@@ -92,7 +93,7 @@ impl Scope {
         self.locations.get(array.0 as usize).copied().unwrap_or(0)
     }
 
-    /// The code's array for an array variable that is in use. Each one that a program names is.
+    /// The code's array for an array variable that is in use. Each array that a program names is in use.
     pub fn array(&self, array: VarId) -> Result<u32, AllocError>
         ensures { IfOk result (λ number. array_of self.now array ≡ Some number) }
     {
@@ -122,7 +123,7 @@ impl Scope {
         }
     }
 
-    /// Puts one of the code's arrays behind the others, and gives its location.
+    /// Adds one of the code's arrays, and gives its location.
     pub fn add_array(&mut self, number: u32) -> Result<u32, AllocError>
         ensures { IfOk result (λ location. (location ≡ length self.old.arrays)
             × (self.new ≡ record self.old { arrays = self.old.arrays ++ number ∷ [] })) }

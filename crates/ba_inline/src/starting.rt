@@ -1,5 +1,5 @@
-//! The variables that a run begins with: the globals, and those of `main`. All variables of the code are 0 there but for those that
-//! the input is given to, so no node sets them.
+//! The variables at the start of a run: the globals, and those of `main`. All variables of the code are 0
+//! there but the parameters, so no node sets them.
 
 ghost use Rattle.std.specs.Prelude.{◌≡◌, ◌≤◌, ◌∷◌, [], slice_get, Some, IfOk, OnOk};
 ghost use Rattle.ba_inline.specs.Starting.{AreParams, IsParam, Starts};
@@ -15,7 +15,7 @@ use ba_tree::lookup::variable_of;
 use ba_tree::tree::Shape;
 use std::alloc::AllocError;
 
-/// A variable of the program has one of the code, or an array in a location of its own.
+/// Gives a variable of the program a variable of the code, or an array a new location.
 fn start_one(
     setting: &Setting,
     scope: &mut Scope,
@@ -41,7 +41,7 @@ fn start_one(
     Ok(())
 }
 
-/// Variables of the program have some of the code, or arrays in locations of their own.
+/// Gives variables of the program variables of the code, or arrays new locations.
 pub fn start_all(
     setting: &Setting,
     scope: &mut Scope,
@@ -57,8 +57,8 @@ pub fn start_all(
     Ok(())
 }
 
-/// The variable that a parameter of `main` is given to. It comes behind those of the globals, and holds numbers of the parameter's type; in
-/// a program it always does.
+/// The variable of the code for a parameter of `main`. It comes after those of the globals, and holds numbers
+/// of the parameter's type. In a program it always exists.
 fn value_param(
     scope: &Scope,
     globals: Counts,
@@ -76,7 +76,7 @@ fn value_param(
     }
 }
 
-/// What a parameter of `main` is given to.
+/// The variable or array of the code for a parameter of `main`.
 fn param_of(
     setting: &Setting,
     scope: &Scope,
@@ -104,7 +104,7 @@ fn param_of(
     }
 }
 
-/// What the parameters of `main` are given to, in their order.
+/// The variables and arrays of the code for the parameters of `main`, in their order.
 pub fn params_of(
     setting: &Setting,
     scope: &Scope,

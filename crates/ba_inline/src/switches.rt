@@ -1,117 +1,81 @@
 //! The code of `switch`.
 
 ghost use Rattle.std.specs.Prelude.{◌≡◌, true, length, OnOk};
-ghost use Rattle.ba_inline.specs.Making.{AreSettled, Does, Makes};
-ghost use Rattle.ba_inline.specs.Names.{IsFrame, with_home};
+ghost use Rattle.ba_inline.specs.Inlining.{Executes};
+ghost use Rattle.ba_inline.specs.Making.{AreSettled};
+ghost use Rattle.ba_inline.specs.Names.{with_home};
 ghost use Rattle.ba_inline.specs.Switching.{guarded_part, switch_part};
 
 use crate::blocks::wrap_block;
-use crate::calls::given_to;
-use crate::control::statement;
 use crate::declared::Declared;
-use crate::frames::{BROKEN, Frame, Setting, Wanted, in_step};
+use crate::frames::{BROKEN, Inliner, Wanted, in_step};
 use crate::labels::{Group, Labels, add_where, entry_flags, flag_at, group_for};
-use crate::scope::Scope;
 use ba_code::nodes::{Node, Operand};
-use ba_tree::run::Step;
 use ba_tree::tree::{Expr, Stmt};
 use std::alloc::AllocError;
 
-/// The code of a `switch`: a block that a `break` leaves, in which each statement is run where a label that has the value, or else
-/// `default`, stands before it.
-#[cycle(inline)]
-#[inline(never)]
-pub fn switch(
-    setting: &Setting,
-    scope: &Scope,
-    frame: Frame,
-    path: &[Step],
-    declared: &mut Declared,
-    out: &mut Vec<Node>,
-    labels: &Labels,
-    on: &Expr,
-    body: &[Stmt],
-) -> Result<(), AllocError>
-    ensures { OnOk result (IsFrame setting.now.program.now frame.home scope.now declared.old
-        → Makes setting.now.program.now scope.now path.now
-        (switch_part setting.now.program.now frame labels.now.stmt labels.now.t on.now
-        labels.now.starts.now labels.now.other body.now)
-        (Does scope.now frame.exits frame.home declared.old)
-        declared.old declared.new out.old.items out.new.items) }
-{
-    let since = declared.moment();
-    let to = declared.variable(labels.t)?;
-    let start = out.len();
-    given_to(
-        setting,
-        scope,
-        frame,
-        path,
-        labels.stmt,
-        Wanted::Value(labels.t),
-        to,
-        declared,
-        out,
-        on,
-    )?;
-    let flags = entry_flags(
-        setting.alloc,
-        declared,
-        out,
-        labels,
-        Operand::Var(to),
-        body.len(),
-    )?;
-    guarded(
-        setting,
-        scope,
-        in_step(frame),
-        path,
-        declared,
-        out,
-        body,
-        flags.as_slice(),
-    )?;
-    wrap_block(setting.alloc, out, start, BROKEN)?;
-    declared.wipe(since, frame.home, out)
-}
-
-/// The code of statements in a row, each of which is run where its flag is set. Those in a row that have the same flag stand together.
-#[cycle(inline)]
-fn guarded(
-    setting: &Setting,
-    scope: &Scope,
-    frame: Frame,
-    path: &[Step],
-    declared: &mut Declared,
-    out: &mut Vec<Node>,
-    body: &[Stmt],
-    flags: &[Operand],
-) -> Result<(), AllocError>
-    ensures { OnOk result (IsFrame setting.now.program.now frame.home scope.now declared.old
-        → length flags.now ≡ length body.now
-        → AreSettled true (with_home frame.home scope.now) declared.old flags.now
-        → Makes setting.now.program.now scope.now path.now
-        (guarded_part setting.now.program.now frame body.now flags.now)
-        (Does scope.now frame.exits frame.home declared.old)
-        declared.old declared.new out.old.items out.new.items) }
-{
-    let mut group = Group {
-        when: Operand::Const(0),
-        nodes: Vec::new(setting.alloc),
-    };
-    for (place, stmt) in body.iter().enumerate() {
-        group = group_for(setting.alloc, out, group, flag_at(flags, place))?;
-        statement(
-            setting,
-            scope,
-            frame,
-            path,
+impl<'a> Inliner<'a> {
+    /// The code of a `switch`: a block that a `break` leaves. In it each statement runs if the label of
+    /// the value, or else `default`, is before it.
+    #[cycle(inline)]
+    #[inline(never)]
+    pub fn switch(
+        &self,
+        declared: &mut Declared,
+        out: &mut Vec<Node>,
+        labels: &Labels,
+        on: &Expr,
+        body: &[Stmt],
+    ) -> Result<(), AllocError>
+        ensures { OnOk result (Executes self.now (λ p frame. switch_part p frame labels.now.stmt
+            labels.now.t on.now labels.now.starts.now labels.now.other body.now)
+            declared.old declared.new out.old.items out.new.items) }
+    {
+        let since = declared.moment();
+        let to = declared.variable(labels.t)?;
+        let start = out.len();
+        self.given_to(labels.stmt, Wanted::Value(labels.t), to, declared, out, on)?;
+        let flags = entry_flags(
+            self.setting.alloc,
             declared,
-            &mut group.nodes,
-            stmt,
+            out,
+            labels,
+            Operand::Var(to),
+            body.len(),
         )?;
+        let inside = Inliner {
+            frame: in_step(self.frame),
+            ..*self
+        };
+        inside.guarded(declared, out, body, flags.as_slice())?;
+        wrap_block(self.setting.alloc, out, start, BROKEN)?;
+        declared.wipe(since, self.frame.home, out)
     }
-    let Group { when, nodes } = group;
-    add_where(setting.alloc, out, when, nodes)
+
+    /// The code of statements in a row, each of which runs if its flag is set. Neighbours with the same
+    /// flag are one group.
+    #[cycle(inline)]
+    fn guarded(
+        &self,
+        declared: &mut Declared,
+        out: &mut Vec<Node>,
+        body: &[Stmt],
+        flags: &[Operand],
+    ) -> Result<(), AllocError>
+        ensures { OnOk result (length flags.now ≡ length body.now
+            → AreSettled true (with_home self.now.frame.home self.now.scope.now) declared.old flags.now
+            → Executes self.now (λ p frame. guarded_part p frame body.now flags.now)
+            declared.old declared.new out.old.items out.new.items) }
+    {
+        let mut group = Group {
+            when: Operand::Const(0),
+            nodes: Vec::new(self.setting.alloc),
+        };
+        for (place, stmt) in body.iter().enumerate() {
+            group = group_for(self.setting.alloc, out, group, flag_at(flags, place))?;
+            self.statement(declared, &mut group.nodes, stmt)?;
+        }
+        let Group { when, nodes } = group;
+        add_where(self.setting.alloc, out, when, nodes)
+    }
 }

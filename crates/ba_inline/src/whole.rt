@@ -6,9 +6,8 @@ ghost use Rattle.ba_inline.specs.Outcomes.{HasOutcomes};
 ghost use Rattle.ba_inline.specs.Translating.{IsTranslation, IsTyped, code_with};
 
 use crate::blocks::add_body;
-use crate::control::statements;
 use crate::declared::Declared;
-use crate::frames::{Exits, Frame, Setting};
+use crate::frames::{Exits, Frame, Inliner, Setting};
 use crate::scope::Scope;
 use crate::starting::{params_of, start_all};
 use ba_code::fitting::{are_typed, loop_tree_of};
@@ -20,7 +19,7 @@ use ba_tree::lookup::function_of;
 use ba_tree::tree::Program;
 use std::alloc::{AllocError, Global};
 
-/// What is made of a program: what is declared, what the parameters of `main` are given to, and the nodes.
+/// The translation of a program: its declarations, the parameters of `main`, and the nodes.
 #[derive(Drop)]
 struct Translation {
     declared: Declared,
@@ -60,24 +59,20 @@ fn translate(setting: &Setting, frames: u32) -> Result<Translation, AllocError>
         frames: frames.saturating_sub(1),
     };
     let mut body = Vec::new(setting.alloc);
-    statements(
-        setting,
-        &globals,
+    let before = Inliner {
+        setting: &*setting,
+        scope: &globals,
         frame,
-        &[],
-        &mut declared,
-        &mut body,
-        program.inits.as_slice(),
-    )?;
-    statements(
-        setting,
-        &scope,
+        path: &[],
+    };
+    before.statements(&mut declared, &mut body, program.inits.as_slice())?;
+    let inside = Inliner {
+        setting: &*setting,
+        scope: &scope,
         frame,
-        &[],
-        &mut declared,
-        &mut body,
-        main.body.as_slice(),
-    )?;
+        path: &[],
+    };
+    inside.statements(&mut declared, &mut body, main.body.as_slice())?;
     let mut whole = Vec::new(setting.alloc);
     add_body(&mut whole, body)?;
     let params = params_of(setting, &scope, counts, &declared, main.params.as_slice())?;
@@ -88,7 +83,8 @@ fn translate(setting: &Setting, frames: u32) -> Result<Translation, AllocError>
     })
 }
 
-/// The tree of what was made of a program. Its parts fit together and keep to their types; in what is made of a program they always do.
+/// The tree of a translation. Its parts fit together and keep to their types; in a translation of a program
+/// they always do.
 fn tree_of(alloc: Global, made: Translation) -> Result<LoopTree, AllocError>
     ensures { IfOk result (λ tree. IsTyped made.declared made.body.items
         × (code_of_loops tree ≡ code_with
@@ -117,12 +113,14 @@ fn tree_of(alloc: Global, made: Translation) -> Result<LoopTree, AllocError>
     }
 }
 
-/// The program without calls: a call is replaced by the function's body (C90 6.3.2.2), expressions by operators over constants and
-/// variables in the order of their evaluation (C90 6.3), and a call with so many frames active, that of `main` among them, by the end
-/// of the run. Each statement that may be relaxed keeps its place.
+/// The program without calls. Each call is replaced by the function's body (C90 6.3.2.2). Expressions become
+/// operators over constants and variables, in the order of their evaluation (C90 6.3). A call with already
+/// `frames` frames active, that of `main` among them, is replaced by the end of the run. Each statement that
+/// may be relaxed keeps its place.
 ///
-/// For every input that fits the parameters of `main`, every bound on the turns of loops, every set of statements or of places that
-/// may be relaxed and every list of choices, the tree has exactly the outcome of the program. The one error is want of memory.
+/// The tree has exactly the outcome of the program. This holds for all inputs that fit `main`, all bounds on
+/// iterations, all statements or places that may be relaxed, and all choices. The only error is out of
+/// memory.
 pub fn inline(alloc: Global, program: &Program, frames: u32) -> Result<LoopTree, AllocError>
     ensures { IfOk result (λ tree. HasOutcomes program.now frames tree) }
 {

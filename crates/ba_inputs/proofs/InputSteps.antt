@@ -29,7 +29,7 @@ no_more_numbers i (t ∷ ts) (z ∷ zs) none = absurd (omega arith)
 
 -- THE PIECES
 
--- what was read, of all the pieces, where these are left
+-- what was read, of all the pieces, if these are left
 pub record Reads (pieces left : List (List ℕ)) (numbers : List ℤ) (most : ℕ) : Type 0 where
   pub first : first_where is_no_number pieces ≡ position_from is_no_number (length numbers + 1) left
   pub whole : map nearest (numbers_of pieces) ≡ numbers ++ map nearest (numbers_of left)
@@ -85,7 +85,7 @@ count-is : (numbers : List ℤ) (pieces : List (List ℕ)) → AreNumbers pieces
 count-is numbers pieces a =
     ap length a.nearest_ones ∙ length-map (numbers_of pieces) nearest ∙ length-numbers_of 1 pieces a.each
 
--- what is said of the numbers' types where each piece is a number
+-- what is said of the numbers' types if each piece is a number
 abbrev typed_fault : List CType → List (List ℕ) → Bool → Option InputFault
 typed_fault types pieces b =
     cond b (option_map OutOfRange (first_where is_outside (zip types (numbers_of pieces)))) (Some WrongCount)

@@ -31,7 +31,7 @@ refused-next : (p : Program) (most : ℕ) (line : Numbered) (lines : List Number
 refused-next p most line lines =
     or-assoc (line_fault p line) (first_fault p (take most lines)) (too_many (drop most lines))
 
--- lines that are refused, and others behind them
+-- lines that are refused, and others after them
 refused-stays : (p : Program) (most : ℕ) (lines others : List Numbered) (f : InputsFault)
     → first_refused p most lines ≡ Some f → first_refused p most (lines ++ others) ≡ Some f
 refused-stays p most [] others f is = cc (refused-none p most)
@@ -110,7 +110,7 @@ first-taken number line lines = by (is_input_line (number, line))
     by true = refl
     by false = refl
 
--- the inputs of the lines so far, where these are left
+-- the inputs of the lines so far, if these are left
 pub record Reads (p : Program) (text : List ℕ) (left : List (List ℕ)) (number : ℕ) (inputs : List InputLine)
     : Type 0 where
   pub earlier : List Numbered

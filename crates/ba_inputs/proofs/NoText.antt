@@ -1,4 +1,4 @@
--- An empty text gives the weights that hold where none are given.
+-- An empty text gives the weights that hold if none are given.
 use Rattle.std.proofs.Common.{◌≡◌, ℕ, Option, None, List, [], ◌∷◌, map, refl, ap₂}
 use Rattle.ba_tree.specs.Least.{unit_weight, unit_weights}
 use Rattle.ba_tree.specs.declared.tree.Program.{Program}

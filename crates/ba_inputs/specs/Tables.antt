@@ -1,4 +1,4 @@
--- The table of weights by numbers of lines, which the reading of a text fills.
+-- The table of weights by line numbers, which reading a text fills.
 
 use Rattle.std.specs.Prelude.{◌≡◌, ℕ, if◌then◌else◌, Option, None, Some, is_some, List, get_or}
 use Rattle.std.specs.List.{slice_set}
@@ -8,10 +8,11 @@ use Rattle.ba_inputs.specs.declared.weights.LineContent.TheVariants.{Skipped, Na
 use Rattle.ba_bytes.specs.Lines.{lines_of}
 use Rattle.ba_inputs.specs.Weights.{bad_line, said_of}
 
+-- what is said of each line, by its number
 abbrev pub Table : Type 0
 Table = List (Option LineWeight)
 
--- the table after a line of the text; none where the line is bad
+-- the table after a line of the text; None if the line is bad
 abbrev pub after_line : Table → LineContent → Option Table
 after_line table Skipped = Some table
 after_line table (Named line weight) =

@@ -18,19 +18,19 @@ use ba_tree::tree::{Program, Shape};
 use std::alloc::{AllocError, AllocFailed, Global};
 use thiserror::Error;
 
-/// Why a text is no input of a program, or want of memory. Pieces are counted from 1.
+/// Why a text is no input of a program, or out of memory. Pieces are counted from 1.
 #[derive(Clone, Copy, Debug, PartialEq, Eq, Error)]
 pub enum InputError {
-    /// The piece of this number is not one or more decimal digits, with or without a minus sign before them.
+    /// Piece number I, from 1, is not one or more decimal digits, with or without a minus sign before them.
     #[error("piece {0} is no number")]
     NotANumber(u32),
-    /// The number at this place is outside the type of its parameter.
+    /// Number I, from 1, is outside the type of its parameter.
     #[error("number {0} is outside its type")]
     OutOfRange(u32),
     /// There are fewer or more numbers than the parameters take.
     #[error("too few or too many numbers")]
     WrongCount,
-    /// There was no memory.
+    /// Out of memory.
     #[error("out of memory")]
     Memory,
 }
@@ -57,7 +57,8 @@ impl<T: Drop> From<AllocFailed<T>> for InputError {
     }
 }
 
-/// The numbers of the pieces, each as the nearest of 64 bits, or the number of the first piece that is none.
+/// The numbers of the pieces, each as the nearest number of type `i64`; or the number of the first piece that
+/// is none.
 fn numbers_of(alloc: Global, text: &[u8]) -> Result<Vec<i64>, InputError>
     requires { length text.now ≤ 65536 }
     ensures ok { IfOk result (λ numbers. AreNumbers (pieces_of text.now) numbers.items) }
@@ -85,7 +86,7 @@ fn numbers_for(shape: Shape) -> usize
     }
 }
 
-/// Adds so many items of this type.
+/// Appends `count` items of this type.
 fn add_types(types: &mut Vec<CType>, count: usize, t: CType) -> Result<(), AllocError>
     ensures { OnOk result (types.new.items ≡ types.old.items ++ replicate count t) }
 {
@@ -95,7 +96,7 @@ fn add_types(types: &mut Vec<CType>, count: usize, t: CType) -> Result<(), Alloc
     Ok(())
 }
 
-/// The types that the numbers of these parameters have.
+/// The types of the numbers of these parameters.
 fn types_for(alloc: Global, program: &Program, params: &[VarId]) -> Result<Vec<CType>, AllocError>
     ensures { IfOk result (λ types. types.items ≡ types_for program.now params.now) }
 {
@@ -107,7 +108,7 @@ fn types_for(alloc: Global, program: &Program, params: &[VarId]) -> Result<Vec<C
     Ok(types)
 }
 
-/// The number, counted from 1, of the first of the numbers that is outside its type.
+/// The index, counted from 1, of the first number that is outside its type.
 fn first_outside(types: &[CType], numbers: &[i64]) -> Option<u32>
     requires { length numbers.now ≤ 65536 }
     ensures { result ≡ first_where is_outside (zip types.now numbers.now) }
@@ -142,12 +143,16 @@ fn values_for(
     Ok(lists)
 }
 
-/// Reads the input of a program from its text: decimal numbers, with or without a minus sign, between blanks (tabs, line feeds, vertical
-/// tabs, form feeds, carriage returns and spaces). Each parameter of `main` takes one number of its type, an array one for each
-/// element, in the order of the parameters. The text has at most 65,536 bytes.
+/// Reads the input of a program from its text: decimal numbers between blanks, with or without a minus sign.
+/// Blanks are bytes 9 to 13 and 32. Each parameter of `main` takes one number of its type, an array one for
+/// each element, in the order of the parameters. The text has at most 65,536 bytes.
 ///
-/// Of the errors that hold, `NotANumber` comes before `WrongCount`, and that before `OutOfRange`; each has the number of the first such
-/// piece, counted from 1. `Memory` is want of memory.
+/// The errors are tested in this order; pieces are counted from 1:
+/// - `NotANumber`: the first piece that is no number.
+/// - `WrongCount`: there are too few or too many numbers.
+/// - `OutOfRange`: the first number outside its type.
+///
+/// `Memory` is out of memory.
 pub fn read_input(alloc: Global, program: &Program, text: &[u8]) -> Result<Input, InputError>
     requires short { length text.now ≤ 65536 }
     ensures ok { IfOk result (IsInputOf program.now text.now) }

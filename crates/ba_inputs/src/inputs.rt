@@ -1,4 +1,4 @@
-//! The inputs that a text gives, one a line.
+//! The inputs of a text, one a line.
 
 ghost use Rattle.std.specs.Prelude.{◌≡◌, ◌≤◌, true, None, All, length, IfErr, IfOk, OnOk};
 ghost use Rattle.ba_bytes.specs.Pieces.{pieces_of};
@@ -16,32 +16,34 @@ use ba_tree::tree::Program;
 use std::alloc::{AllocError, AllocFailed, Global};
 use thiserror::Error;
 
-/// An input, with the number of the line that writes it. All lines of the text are counted, from 1.
+/// An input, with the number of its line. All lines of the text are counted, from 1.
 #[derive(Drop)]
 pub struct InputLine {
     pub line: u64,
     pub input: Input,
 }
 
-/// Why a text gives no inputs of a program, or want of memory. Lines, and the pieces of each, are counted from 1.
+/// Why a text gives no inputs of a program, or out of memory. Lines, and the pieces of each, are counted from
+/// 1.
 #[derive(Clone, Copy, Debug, PartialEq, Eq, Error)]
 pub enum InputsError {
-    /// In this line, the piece of this number is not one or more decimal digits, with or without a minus sign before them.
+    /// In this line, piece number I is not one or more decimal digits, with or without a minus sign before
+    /// them.
     #[error("piece {number} of line {line} is no number")]
     NotANumber { line: u64, number: u32 },
-    /// In this line, the number at this place is outside the type of its parameter.
+    /// In this line, number I is outside the type of its parameter.
     #[error("number {number} of line {line} is outside its type")]
     OutOfRange { line: u64, number: u32 },
     /// In this line there are fewer or more numbers than the parameters take.
     #[error("too few or too many numbers in line {line}")]
     WrongCount { line: u64 },
-    /// There are fewer inputs than are wanted.
+    /// There are fewer inputs than wanted.
     #[error("too few inputs")]
     NoInput,
-    /// This line is that of one more input than a text may give.
+    /// This line would be the 65th input.
     #[error("too many inputs in line {line}")]
     TooMany { line: u64 },
-    /// There was no memory.
+    /// Out of memory.
     #[error("out of memory")]
     Memory,
 }
@@ -68,10 +70,10 @@ impl<T: Drop> From<AllocFailed<T>> for InputsError {
     }
 }
 
-/// How many inputs a text may give.
+/// The limit on inputs of a text.
 const MOST_INPUTS: usize = 64;
 
-/// Whether a line is skipped: it has nothing but blanks, or is a comment.
+/// Whether a line is skipped: it has only blanks, or is a comment.
 fn is_skipped(line: &[u8]) -> bool
     ensures { result ≡ are_skipped (pieces_of line.now) }
 {
@@ -82,7 +84,7 @@ fn is_skipped(line: &[u8]) -> bool
     }
 }
 
-/// The input that a line writes, with the number of the line.
+/// The input of a line, with the number of the line.
 fn read_line(
     alloc: Global,
     program: &Program,
@@ -104,7 +106,7 @@ fn read_line(
     }
 }
 
-/// Adds the input that a line writes, unless the line is skipped.
+/// Adds the input of a line, unless the line is skipped.
 fn add_line(
     alloc: Global,
     program: &Program,
@@ -150,12 +152,15 @@ fn read_lines(alloc: Global, program: &Program, text: &[u8]) -> Result<Vec<Input
     Ok(inputs)
 }
 
-/// Reads the inputs of a program from a text that has one in each line, as [`read_input`] reads one from a text. Only a line feed
-/// ends a line. A line of blanks is skipped, and one whose first other byte is `#`. The text has at most 65,536 bytes.
+/// Reads several inputs of a program from a text, one a line, each as [`read_input`] reads it. Only a line
+/// feed ends a line. A line is skipped if it has only blanks, or if its first other byte is `#`. The text has
+/// at most 65,536 bytes.
 ///
-/// `NotANumber`, `OutOfRange` and `WrongCount` come where [`read_input`] refuses a line, and `TooMany` comes at the 65th that is not
-/// skipped, whatever it writes. The first line that is refused is told, with its number among all lines. `NoInput` comes where none is
-/// refused and there are fewer inputs than `least`. `Memory` is want of memory.
+/// The first refused line is answered, with its number among all lines, from 1:
+/// - `NotANumber`, `OutOfRange`, `WrongCount`: [`read_input`] refuses the line.
+/// - `TooMany`: the 65th line that is not skipped, whatever it has.
+///
+/// `NoInput` comes if no line is refused and there are fewer inputs than `least`. `Memory` is out of memory.
 pub fn read_inputs(
     alloc: Global,
     program: &Program,

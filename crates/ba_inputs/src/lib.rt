@@ -1,8 +1,7 @@
-//! What the files beside a program say: the input of a run, the inputs of several, and the weights of statements.
+//! Parsers of the files beside a program: a failing input, several inputs, and the weights of statements.
 //!
-//! [`read_input`] gives the input that a text writes for a program, and [`read_inputs`] those that a text writes in its
-//! lines. [`read_weights`] gives the weights of a program's statements, exactly where each line of the text says what a
-//! line of weights may say.
+//! [`read_input`] reads the input of a text, and [`read_inputs`] the inputs of its lines. [`read_weights`]
+//! reads the weights of a program's statements.
 #![tactic(auto)]
 
 mod input;

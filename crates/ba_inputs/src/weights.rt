@@ -16,14 +16,14 @@ use ba_tree::tree::{Program, StmtInfo, StmtKind};
 use std::alloc::{AllocError, AllocFailed, Global};
 use thiserror::Error;
 
-/// Why a text gives no weights, or want of memory.
+/// Why a text gives no weights, or out of memory.
 #[derive(Clone, Copy, Debug, Error)]
 pub enum WeightsError {
-    /// The line of this number, counted from 1, is the first that is wrong: it says nothing that a line may
-    /// say, or names a line that an earlier one names.
+    /// The line of this number, counted from 1, is the first bad one. It has no form of a line, or names a
+    /// line that an earlier one names.
     #[error("line {0} of the weights is wrong")]
     Line(u64),
-    /// There was no memory.
+    /// Out of memory.
     #[error("out of memory")]
     Memory,
 }
@@ -55,7 +55,7 @@ impl<T: Drop> From<AllocFailed<T>> for WeightsError {
 pub enum LineWeight {
     /// They may not be relaxed.
     Fixed,
-    /// Each weighs so much, from 1 to 1,000.
+    /// Each has this weight, from 1 to 1,000.
     Weight(u32),
 }
 
@@ -66,11 +66,11 @@ pub enum LineContent {
     Skipped,
     /// A line of the program with its weight. The number is 1 to 99,999.
     Named { line: u32, weight: LineWeight },
-    /// Nothing that a line may be.
+    /// No form of a line.
     Bad,
 }
 
-/// How many numbers of lines there are, with 0, which is none.
+/// The size of the table: line numbers are 1 to 99,999, and entry 0 is not used.
 const LINES: usize = 100_000;
 
 /// Whether a piece begins a comment.
@@ -94,7 +94,7 @@ fn weight_in(piece: &[u8]) -> Option<LineWeight>
     Some(LineWeight::Weight(weight))
 }
 
-/// What a line is that has these two pieces.
+/// The content of a line with these two pieces.
 fn named(line: &[u8], weight: &[u8]) -> LineContent
     ensures value { result ≡ named_by line.now weight.now }
     ensures within { IsWithinTable result }
@@ -108,7 +108,7 @@ fn named(line: &[u8], weight: &[u8]) -> LineContent
     LineContent::Named { line, weight }
 }
 
-/// What a line of the weights is.
+/// The content of a line of the weights.
 #[tactic(auto, unfolding(crate::specs::Weights::content_of))]
 fn content_of(line: &[u8]) -> LineContent
     ensures value { result ≡ content_of line.now }
@@ -130,7 +130,7 @@ fn content_of(line: &[u8]) -> LineContent
     named(first, second)
 }
 
-/// Puts the weight of a line of the program into the table, unless it stands there, and says whether it did.
+/// Enters the weight of a line of the program, unless the line is there already, and tells whether it did.
 fn put(table: &mut [Option<LineWeight>], line: usize, weight: LineWeight) -> bool
     requires { line < length table.old }
     ensures { MatchOption (after_line table.old (LineContent.Named line weight)) (result ≡ false)
@@ -143,7 +143,7 @@ fn put(table: &mut [Option<LineWeight>], line: usize, weight: LineWeight) -> boo
     true
 }
 
-/// Puts what a line of the weights says into the table, and says whether the line is right.
+/// Enters what a line of the weights says, and tells whether the line is good.
 fn put_line(table: &mut [Option<LineWeight>], line: &[u8]) -> bool
     requires { length table.old ≡ LINES }
     ensures { MatchOption (after_line table.old (content_of line.now)) (result ≡ false)
@@ -156,9 +156,9 @@ fn put_line(table: &mut [Option<LineWeight>], line: &[u8]) -> bool
     }
 }
 
-/// A table of so many lines that says nothing of any.
+/// A table of `lines` entries that says nothing of any line.
 ///
-/// The one error is want of memory.
+/// The only error is out of memory.
 fn empty_table(alloc: Global, lines: usize) -> Result<Vec<Option<LineWeight>>, AllocError>
     ensures size { IfOk result (λ table. length table.items ≡ lines) }
     ensures empty { IfOk result (λ table. (line : ℕ) → get_or table.items line None ≡ None) }
@@ -167,7 +167,7 @@ fn empty_table(alloc: Global, lines: usize) -> Result<Vec<Option<LineWeight>>, A
     Ok(table)
 }
 
-/// The table of the weights by numbers of lines.
+/// The table of the weights by line numbers.
 fn table_of(alloc: Global, text: &[u8]) -> Result<Vec<Option<LineWeight>>, WeightsError>
     ensures ok { IfOk result (λ table. IsTableOf text.now table.items) }
     ensures err { IfErr result (λ error. Tells error (bad_line text.now)) }
@@ -185,7 +185,7 @@ fn table_of(alloc: Global, text: &[u8]) -> Result<Vec<Option<LineWeight>>, Weigh
     Ok(table)
 }
 
-/// The weight of the statements of a line, of which the weights say this.
+/// The weight of a statement of which the weights say this.
 fn weight_of(said: Option<LineWeight>) -> Option<u32>
     ensures { result ≡ weight_of said }
 {
@@ -218,7 +218,7 @@ fn statement_weight(table: &[Option<LineWeight>], info: StmtInfo) -> Option<u32>
 
 /// The weights of the statements, by the table of the weights.
 ///
-/// The one error is want of memory.
+/// The only error is out of memory.
 fn weights_of(
     alloc: Global,
     statements: &[StmtInfo],
@@ -236,14 +236,16 @@ fn weights_of(
     Ok(Weights { of })
 }
 
-/// Reads the weights of a program's statements. A line of the text is blank, or a comment that begins with
-/// `#`, or the number of a line of the program and behind it, between blanks, the weight of the statements
-/// that begin in that line: a number from 1 to 1,000, or `fixed` where they may not be relaxed. The number of
-/// a line is one to five digits and at least 1, a weight at most four. A statement of a line that is not
-/// named weighs 1; an assert is never relaxed.
+/// Reads the weights of a program's statements. The forms of a line:
+/// - blank, or a comment that begins with `#`
+/// - LINE and WEIGHT, between blanks: the statements that begin in line LINE of the program weigh 1 to 1,000
+/// - LINE and `fixed`: they may not be relaxed
 ///
-/// `Line` comes exactly where a line is none of these or names a line that an earlier one names, with the
-/// number of the first such line; `Memory` is want of memory.
+/// LINE is one to five digits and at least 1, WEIGHT one to four digits. Other statements weigh 1. An assert
+/// is never relaxed.
+///
+/// `Line` comes exactly if a line has none of these forms or names a line that an earlier one names. It has
+/// the number of the first such line. `Memory` is out of memory.
 pub fn read_weights(alloc: Global, program: &Program, text: &[u8]) -> Result<Weights, WeightsError>
     ensures accepted { IfOk result (λ _. bad_line text.now ≡ None) }
     ensures value { IfOk result (λ weights. weights.of ≡ weights_in program.now text.now) }

@@ -1,5 +1,5 @@
--- What stands in place of a statement's own expressions, from what the choice and they give.
-use Rattle.std.proofs.Common.{◌≡◌, ℕ, ℤ, Bool, Option, None, Some, Result, Ok, Err, List, ◌∷◌, map, length, refl, sym, ◌∙◌, ap, subst}
+-- What is in place of a statement's own expressions, from what the choice and they give.
+use Rattle.std.proofs.Common.{◌≡◌, ℕ, ℤ, Bool, Option, None, Some, Result, Ok, Err, List, map, length, refl, sym, ◌∙◌, ap, subst}
 use Rattle.std.specs.Prelude.{option_map}
 use Rattle.ba_numbers.specs.declared.ids.StmtId.{StmtId}
 use Rattle.ba_numbers.specs.declared.numbers.CType.{CType}
@@ -8,11 +8,9 @@ use Rattle.ba_numbers.specs.declared.ids.FnId.{FnId}
 use Rattle.ba_numbers.specs.declared.ids.CallId.{CallId}
 use Rattle.ba_tree.specs.Acts.{give, then_do, each}
 use Rattle.ba_tree.specs.Choices.{admits, choice_at, if_fitting, as_chosen, value_by_choice, all_elements, one_element, no_value}
-use Rattle.ba_tree.specs.Meaning.{eval, eval_arg, given_value, condition, given_elements, given_element, call_effect, print_effect, type_of}
+use Rattle.ba_tree.specs.Meaning.{eval, given_value, condition, given_elements, given_element, call_effect, print_effect, type_of}
 use Rattle.ba_tree.specs.State.{State, Act, Ending, elements_of}
-use Rattle.ba_tree.specs.declared.run.Argument.{Argument}
 use Rattle.ba_tree.specs.declared.run.Step.{Step}
-use Rattle.ba_tree.specs.declared.run.Step.TheVariants.{Call}
 use Rattle.ba_tree.specs.declared.tree.Arg.{Arg}
 use Rattle.ba_tree.specs.declared.tree.Expr.{Expr}
 use Rattle.ba_interp.specs.Doing.{Did}

@@ -1,4 +1,4 @@
--- Rounds of a loop, from what their tests and turns do.
+-- Rounds of a loop, from what their tests and iterations do.
 use Rattle.std.proofs.Common.{◌≡◌, ℕ, ◌+◌, suc, zero, ℤ, pos, true, false, cond, Result, Ok, Err, refl, sym, ◌∙◌, ap, subst}
 use Rattle.std.specs.Ordering.{int_eq}
 use Rattle.ba_tree.specs.Acts.{give, then_do, fork, after_part, rounds, flow_after_loop}
@@ -59,7 +59,7 @@ module _ (test : ℕ → Act ℤ) (turn : ℕ → Execution) (past : Execution) 
     abbrev a_turn : Execution
     a_turn s = then_do (turn k s) next_rounds
 
-    -- a turn that isn't the last one of the run
+    -- an iteration that isn't the last one of the run
     turn-goes : (r q : Result (Flow Exit) Stop) (z : ℤ) (t u : State) → Did (Ok z) t (test k s)
         → int_eq z (pos 0) ≡ false
         → Did q u (a_turn t) → Did q u (rounds test turn past (suc rest) k s)
@@ -93,7 +93,7 @@ module _ (test : ℕ → Act ℤ) (turn : ℕ → Execution) (past : Execution) 
       other
       ∙ ap (λ e. then_do e (after_part (rounds test turn past rest (k + 1)))) turned
 
-  -- the test behind the last turn
+  -- the test after the last iteration
   pub past-is : (whole : Ending (Flow Exit)) (k : ℕ) (s t : State) (is : whole ≡ then_do (rounds test turn
       past zero k s) to_loop)
       (r : Result (Flow Exit) Stop) (z : ℤ) → Did (Ok z) t (test k s) → Did r t (then_do (fork past (give

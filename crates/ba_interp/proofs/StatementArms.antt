@@ -251,7 +251,7 @@ module _ (w : Setting) (f : Frame) (path : List Step) (s : State) where
         → IsThen (exec (context_at w f) e path s) (eval (context_at w f) path here when s) (assert_that here)
     assert-parts here when is = record { is = exec-Assert (context_at w f) path e s here when is }
 
--- ROWS, behind their first parts
+-- ROWS, after their first parts
 
 nothing : {A : Type 0} (xs : List A) → length xs ≡ 0 → xs ≡ []
 nothing [] none = refl
@@ -286,7 +286,7 @@ module _ (x : Context) (path : List Step) (body : List Stmt) (i : ℕ) (s : Stat
     pub row-done : length body ≤ i → exec_all x path body s0 ≡ (Ok Next, s)
     row-done past = so_far ∙ ap (λ body. exec_all x path body s) (drop-past i body past) ∙ none-left x path s
 
--- LOOPS, behind their first rounds
+-- LOOPS, after their first rounds
 
 module _ (w : Setting) (f : Frame) (path : List Step) (parts : LoopParts) (s0 s : State) (k : ℕ) where
   pub tested : (inside : List Step) → inside ≡ in_turn parts.stmt k path → (r : Result ℤ Stop) (t : State)

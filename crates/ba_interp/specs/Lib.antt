@@ -4,3 +4,4 @@ pub mod Frames
 pub mod Settings
 pub mod Loops
 pub mod Parts
+pub mod Prefixes

@@ -1,4 +1,4 @@
-//! What expressions, statements and calls do.
+//! Execution of expressions, statements and calls (C90 6.3, 6.6).
 
 ghost use Rattle.std.specs.Prelude.{map};
 ghost use Rattle.ba_tree.specs.Acts.{each, then_do};
@@ -97,7 +97,7 @@ pub fn eval(
     }
 }
 
-/// The value of a call: what its arguments give, and then its function.
+/// The value of a call: its arguments, and then its function.
 #[cycle(run)]
 fn call_value(
     setting: &Setting,
@@ -126,7 +126,7 @@ fn call_value(
     )
 }
 
-/// What arguments give to a call, from the left to the right.
+/// The values and arrays that arguments pass to a call, from left to right.
 #[cycle(run)]
 pub fn eval_args(
     setting: &Setting,
@@ -147,7 +147,7 @@ pub fn eval_args(
     Ok(arguments)
 }
 
-/// What an argument gives to a call.
+/// The value or array that an argument passes to a call.
 #[cycle(run)]
 fn eval_arg(
     setting: &Setting,
@@ -169,7 +169,7 @@ fn eval_arg(
     }
 }
 
-/// What a function gives for these arguments.
+/// The result of a function for these arguments.
 #[cycle(run)]
 fn invoke(
     setting: &Setting,
@@ -201,7 +201,7 @@ fn invoke(
     Ok(result_of(flow))
 }
 
-/// The value of an expression, or what the choice gives in its place.
+/// The value of an expression, or that of the choice in its place.
 #[cycle(run)]
 fn given(
     setting: &Setting,
@@ -222,7 +222,7 @@ fn given(
     }
 }
 
-/// The values of expressions, from the left to the right.
+/// The values of expressions, from left to right.
 #[cycle(run)]
 fn eval_all(
     setting: &Setting,
@@ -243,7 +243,7 @@ fn eval_all(
     Ok(values)
 }
 
-/// The values of an array's initialiser, or what the choice gives in their place.
+/// The values of an array's initialiser, or those of the choice in their place.
 #[cycle(run)]
 fn given_elements(
     setting: &Setting,
@@ -266,7 +266,7 @@ fn given_elements(
     }
 }
 
-/// The index and the value of a store, or what the choice gives in their place.
+/// The index and the value of a store, or those of the choice in their place.
 #[cycle(run)]
 fn given_element(
     setting: &Setting,
@@ -294,7 +294,7 @@ fn given_element(
     }
 }
 
-/// A call as a statement.
+/// A call statement.
 #[cycle(run)]
 fn call_effect(
     setting: &Setting,
@@ -363,7 +363,7 @@ fn assign(
     Ok(Flow::Next)
 }
 
-/// What a loop is made of: its condition, its body, and the step of a `for`.
+/// The parts of a loop: its condition, its body, and the step of a `for`.
 #[derive(Clone, Copy)]
 struct Loop<'a> {
     stmt: StmtId,
@@ -536,7 +536,7 @@ fn exec(
     }
 }
 
-/// Statements in a row; what comes after one that leaves is left out.
+/// Statements in a row. What comes after one that leaves is skipped.
 #[cycle(run)]
 pub fn exec_all(
     setting: &Setting,
@@ -557,7 +557,7 @@ pub fn exec_all(
     Ok(Flow::Next)
 }
 
-/// A turn of a loop: the body, and where it doesn't leave the loop the step.
+/// An iteration of a loop: the body, and the step unless the body leaves the loop.
 #[cycle(run)]
 fn turn(
     setting: &Setting,
@@ -577,7 +577,7 @@ fn turn(
     }
 }
 
-/// The loop of a `for` behind its first part, or of a `while`.
+/// A `while`, or a `for` after its first part.
 #[cycle(run)]
 fn for_loop(
     setting: &Setting,
@@ -622,7 +622,7 @@ fn for_loop(
     past_bound(parts.stmt, value)
 }
 
-/// The loop of a `do`.
+/// A `do` loop.
 #[cycle(run)]
 fn do_loop(
     setting: &Setting,
@@ -650,7 +650,7 @@ fn do_loop(
     past_bound(parts.stmt, value)
 }
 
-/// The condition of a `do` behind its turn of this number; none comes before the first turn.
+/// The condition of a `do` at the end of iteration `turn`; none comes before the first iteration.
 #[cycle(run)]
 fn test_behind(
     setting: &Setting,

@@ -14,7 +14,7 @@ use crate::values::is_zero;
 use ba_numbers::ids::StmtId;
 use ba_tree::run::{Exit, Flow, Halt};
 
-/// How a body's end goes on inside its loop: behind a `continue` as behind its end.
+/// How the end of a loop's body goes on inside the loop: a `continue` is like the body's end.
 pub fn flow_after_body(flow: Flow<Exit>) -> Flow<Exit>
     ensures { result ≡ flow_after_body flow }
 {
@@ -24,7 +24,7 @@ pub fn flow_after_body(flow: Flow<Exit>) -> Flow<Exit>
     }
 }
 
-/// How a loop or a `switch` ends that was left like this: behind a `break` as behind its end.
+/// How a loop or a `switch` ends: a `break` is like its end.
 pub fn flow_after_loop(flow: Flow<Exit>) -> Flow<Exit>
     ensures { result ≡ flow_after_loop flow }
 {
@@ -34,7 +34,7 @@ pub fn flow_after_loop(flow: Flow<Exit>) -> Flow<Exit>
     }
 }
 
-/// What a function gives whose body ends like this.
+/// The result of a function whose body ends like this.
 pub fn result_of(flow: Flow<Exit>) -> i64
     ensures { result ≡ result_of flow }
 {
@@ -44,7 +44,7 @@ pub fn result_of(flow: Flow<Exit>) -> i64
     }
 }
 
-/// An assertion of this value.
+/// An assertion of a condition with this value.
 pub fn assert_that(stmt: StmtId, value: i64) -> Result<Flow<Exit>, Stop>
     ensures { (s : State) → Did result s (assert_that stmt value s) }
 {
@@ -54,7 +54,7 @@ pub fn assert_that(stmt: StmtId, value: i64) -> Result<Flow<Exit>, Stop>
     Ok(Flow::Next)
 }
 
-/// The condition of a loop that has had all its turns.
+/// The condition, with this value, of a loop that has had all its iterations.
 pub fn past_bound(stmt: StmtId, value: i64) -> Result<Flow<Exit>, Stop>
     ensures { (s : State) → Did result s (then_do (fork (halt_with (Beyond stmt))
         (give Next) value s) (λ flow. give (flow_after_loop flow))) }

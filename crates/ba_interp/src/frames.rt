@@ -1,4 +1,4 @@
-//! Frames of calls, and what a run begins with.
+//! Frames of calls, and the first frame of a run.
 
 ghost use Rattle.std.specs.Prelude.{◌≡◌, ◌++◌, ℕ, List, OnOk, IfOk};
 ghost use Rattle.ba_tree.specs.Run.{begin_all, begin_frame, bind_all, end_frame, with_restored};
@@ -12,7 +12,7 @@ use ba_tree::run::Argument;
 use ba_tree::tree::{Function, Program};
 use std::alloc::{AllocError, Global};
 
-/// Variables begin as 0, arrays in locations of their own.
+/// Variables begin as 0, arrays with new locations.
 pub fn begin_all(
     alloc: Global,
     program: &Program,
@@ -36,7 +36,7 @@ fn bind_all(params: &[VarId], arguments: &[Argument], machine: &mut Machine)
     }
 }
 
-/// The frame of a function that was given these arguments.
+/// Begins the frame of a function with these arguments.
 pub fn begin_frame(
     alloc: Global,
     program: &Program,
@@ -51,7 +51,7 @@ pub fn begin_frame(
     begin_all(alloc, program, function.locals.as_slice(), machine)
 }
 
-/// What a frame takes from its caller, to be given back.
+/// What a call's end restores.
 #[derive(Drop)]
 pub struct Kept {
     params: Vec<Taken>,
@@ -59,7 +59,7 @@ pub struct Kept {
     arrays: usize,
 }
 
-/// What these variables have.
+/// The entries of these variables.
 fn all_taken(alloc: Global, vars: &[VarId], machine: &Machine) -> Result<Vec<Taken>, AllocError>
     ensures { IfOk result (λ taken. taken.items ≡ all_taken machine.now vars.now) }
 {
@@ -70,7 +70,7 @@ fn all_taken(alloc: Global, vars: &[VarId], machine: &Machine) -> Result<Vec<Tak
     Ok(taken)
 }
 
-/// What a call of the function takes from its caller.
+/// What has to be kept before a call of the function.
 pub fn keep(alloc: Global, function: &Function, machine: &Machine) -> Result<Kept, AllocError>
     ensures { IfOk result (λ kept. IsKept function.now kept machine.now) }
 {
@@ -81,7 +81,7 @@ pub fn keep(alloc: Global, function: &Function, machine: &Machine) -> Result<Kep
     })
 }
 
-/// Gives these variables back what they had.
+/// Restores the entries of these variables.
 fn restore(vars: &[VarId], taken: &[Taken], machine: &mut Machine)
     ensures { (before : State) → taken.now ≡ all_taken before vars.now
         → machine.new ≡ with_restored vars.now before machine.old }

@@ -1,7 +1,8 @@
-//! An interpreter of typed C programs: how a run ends, with what it may relax and with these choices.
+//! A big-step interpreter of typed C programs, with relaxed statements and given choices.
 //!
-//! [`run`] gives exactly the outcome that the meaning of C defines. It is linear in the steps that it makes: variables and elements are
-//! reached by their numbers, and no path is copied.
+//! [`run`] gives exactly the outcome that the meaning of C defines. [`run_prefix`] gives that of a run that
+//! may leave choices, and how many it leaves. The time of both is linear in the steps of the run: variables
+//! and elements are found by their numbers, and no path is copied.
 #![tactic(auto)]
 
 mod execution;
@@ -15,4 +16,4 @@ mod setting;
 mod stop;
 mod values;
 
-pub use runs::run;
+pub use runs::{PrefixRun, run, run_prefix};

@@ -1,6 +1,6 @@
-//! How a run stands, and all access to it.
+//! The state of a run, and all access to it.
 
-ghost use Rattle.std.specs.Prelude.{◌≡◌, ℕ, ℤ, pos, Option, None, Some, List, [], ◌∷◌, length, replicate, take, slice_set, true, false, ◌==◌, unsigned_abs, MatchOption, IfOk, OnOk, option_map};
+ghost use Rattle.std.specs.Prelude.{◌≡◌, ℕ, ℤ, pos, Option, None, Some, List, [], ◌∷◌, length, replicate, take, slice_set, true, false, unsigned_abs, MatchOption, IfOk, OnOk, option_map};
 ghost use Rattle.ba_tree.specs.Choices.{choice_at};
 ghost use Rattle.ba_tree.specs.Meaning.{declare, elements_with, or_trap, set_element};
 ghost use Rattle.ba_tree.specs.Run.{begin_shape, bind_one, with_input_one};
@@ -47,7 +47,7 @@ fn fill(elements: &mut [i64], values: &[i64])
 }
 
 impl Elements {
-    /// So many elements, each 0.
+    /// An array of `count` elements, each 0.
     fn zeros(alloc: Global, count: usize) -> Result<Elements, AllocError>
         ensures { IfOk result (λ elements. elements ≡ replicate count (pos 0)) }
     {
@@ -56,6 +56,7 @@ impl Elements {
         })
     }
 
+    /// The elements.
     fn as_slice(&self) -> &[i64]
         ensures { result.now ≡ self.now }
     {
@@ -69,7 +70,7 @@ impl Elements {
         fill(&mut self.items, values);
     }
 
-    /// Sets the element at an index, and answers whether it is there.
+    /// Sets the element at an index, and tells whether the index is in the array.
     fn set(&mut self, index: i64, value: i64) -> bool
         ensures there { result ≡ is_index (length self.old) index }
         ensures set { result ≡ true → self.new ≡ slice_set self.old (unsigned_abs index) value }
@@ -83,8 +84,8 @@ impl Elements {
     }
 }
 
-/// How a run stands: what each variable has, the arrays by location, the location that each array variable names, and the choices
-/// that are not used yet.
+/// The state of a run: the value of each variable, the arrays by location, and the location that each array
+/// variable names. The choices not used up yet belong to it.
 pub struct Machine<'a> {
     values: Vec<i64>,
     arrays: Vec<Elements>,
@@ -116,7 +117,7 @@ impl<'a> Model for Machine<'a> {
     } };
 }
 
-/// What a variable had before a call: its value, and the location that it named.
+/// The entry of a variable before a call: its value, and the location that it named.
 #[derive(Clone, Copy)]
 pub struct Taken {
     value: i64,
@@ -124,7 +125,7 @@ pub struct Taken {
 }
 
 impl<'a> Machine<'a> {
-    /// So many variables, each 0, no array, and all choices still there.
+    /// A state with `count` variables, each 0, no array, and all choices unused.
     pub fn new(
         alloc: Global,
         variables: usize,
@@ -145,12 +146,14 @@ impl<'a> Machine<'a> {
         })
     }
 
+    /// The value of a variable.
     pub fn value(&self, var: VarId) -> i64
         ensures { result ≡ value_at self.now var }
     {
         self.values.get(var.0 as usize).copied().unwrap_or(0)
     }
 
+    /// Sets the value of a variable.
     pub fn set_value(&mut self, var: VarId, value: i64)
         ensures { self.new ≡ with_value self.old var value }
     {
@@ -239,7 +242,7 @@ impl<'a> Machine<'a> {
         Some(choice)
     }
 
-    /// What stands in place of a statement's own expressions: nothing where it isn't relaxed or is kept, else the values of the choice.
+    /// The values that replace a statement's own expressions; none if it isn't relaxed or is kept.
     pub fn choice_at(&mut self, admitted: bool) -> Result<Option<&'a Values>, Stop>
         ensures { Did (ok_map (option_map (λ values. values.now)) result) self.new
             (choice_at admitted self.old) }
@@ -254,14 +257,14 @@ impl<'a> Machine<'a> {
         }
     }
 
-    /// Whether all choices are used up.
-    pub fn has_ended(&self) -> bool
-        ensures { result ≡ (length self.now.choices == 0) }
+    /// How many choices are not used yet.
+    pub fn left(&self) -> usize
+        ensures { result ≡ length self.now.choices }
     {
-        self.choices.is_empty()
+        self.choices.len()
     }
 
-    /// A variable begins as 0, an array in a location of its own.
+    /// A variable begins as 0, an array with a new location.
     pub fn begin(&mut self, alloc: Global, shape: Shape, var: VarId) -> Result<(), AllocError>
         ensures { OnOk result (self.new ≡ begin_shape shape var self.old) }
     {
@@ -309,7 +312,7 @@ impl<'a> Machine<'a> {
         }
     }
 
-    /// What a variable has, to be given back.
+    /// The entry of a variable, to be restored later.
     pub fn taken(&self, var: VarId) -> Taken
         ensures { result ≡ taken_of self.now var }
     {
@@ -319,7 +322,7 @@ impl<'a> Machine<'a> {
         }
     }
 
-    /// Gives a variable back what it had.
+    /// Restores the entry of a variable.
     pub fn give_back(&mut self, var: VarId, taken: Taken)
         ensures { self.new ≡ record self.old {
           values = slice_set self.old.values var.0 taken.value;
@@ -337,7 +340,7 @@ impl<'a> Machine<'a> {
         self.arrays.len()
     }
 
-    /// Drops all arrays but the first ones.
+    /// Drops all arrays but the first `count`.
     pub fn cut(&mut self, count: usize)
         ensures { self.new ≡ record self.old { arrays = take count self.old.arrays } }
     {

@@ -1,4 +1,4 @@
-//! The calls and turns around what is being executed.
+//! The calls and iterations around what is being executed.
 
 ghost use Rattle.std.specs.Prelude.{◌≡◌, ◌∷◌, ◌==◌, ◌&&◌, [], List, reverse};
 ghost use Rattle.ba_tree.specs.Choices.{is_there, same_path, same_step};
@@ -9,7 +9,7 @@ use ba_tree::run::{Place, Step};
 
 /// The steps from `main` to what is being executed, innermost first.
 ///
-/// A step is put before a path that is borrowed, so that no path is copied.
+/// A new step refers to the path before it, so no path is copied.
 #[derive(Clone, Copy)]
 pub enum Path<'a> {
     Main,

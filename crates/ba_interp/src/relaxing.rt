@@ -22,19 +22,21 @@ use ba_tree::run::{Allowed, Halt, Place};
 use ba_tree::tree::{Program, StmtKind};
 use std::alloc::Global;
 
-/// What has to stand in place of an expression: a value of a type, or the value of a condition.
+/// What may replace an expression: a value of a type, or the value of a condition.
 #[derive(Clone, Copy)]
 pub enum Wanted {
     Value(CType),
     Truth,
 }
 
+/// Whether the statement is in the list.
 fn is_listed(list: &[StmtId], stmt: StmtId) -> bool
     ensures { result ≡ list_any (λ (number : StmtId). number.0 == stmt.0) list.now }
 {
     list.iter().any(|number| number.0 == stmt.0)
 }
 
+/// Whether the execution of the statement that this path leads to is in the list.
 fn is_placed(list: &[Place], path: &Path, stmt: StmtId) -> bool
     ensures { result ≡ list_any (is_there (steps_of path.now) stmt) list.now }
 {
@@ -54,6 +56,7 @@ fn is_assert(program: &Program, stmt: StmtId) -> bool
     }
 }
 
+/// Whether an execution of this statement, reached by this path, is of what may be relaxed.
 fn lists(allowed: &Allowed, path: &Path, stmt: StmtId) -> bool
     ensures { result ≡ lists allowed.now (steps_of path.now) stmt }
 {
@@ -72,7 +75,7 @@ pub fn admits(setting: &Setting, path: &Path, stmt: StmtId) -> bool
     lists(setting.allowed, path, stmt) && !is_assert(setting.program, stmt)
 }
 
-/// What stands in place of the expressions of an execution of this statement, if anything does.
+/// The values that replace the expressions of an execution of this statement, if there are any.
 pub fn choice_at<'a>(
     setting: &Setting,
     path: &Path,
@@ -87,7 +90,7 @@ pub fn choice_at<'a>(
     machine.choice_at(admitted)
 }
 
-/// The value of a choice where it fits.
+/// The value of a choice if it fits.
 pub fn fitting(wanted: Wanted, values: &[i64]) -> Result<i64, Stop>
     ensures { (s : State) → Did result s (if_fitting (fitting_of wanted values.now) s) }
 {
@@ -98,13 +101,14 @@ pub fn fitting(wanted: Wanted, values: &[i64]) -> Result<i64, Stop>
     }
 }
 
+/// Whether the value is 0 or 1.
 fn is_truth(value: i64) -> bool
     ensures { result ≡ (int_eq value (pos 0) || int_eq value (pos 1)) }
 {
     value == 0 || value == 1
 }
 
-/// The values of a choice where they fit an array of so many elements of the type.
+/// The values of a choice if they fit an array of `count` elements of the type.
 pub fn all_elements(alloc: Global, t: CType, count: usize, values: &[i64]) -> Result<Vec<i64>, Stop>
     ensures { (s : State) → DidAll result s (if_fitting (all_elements t count values.now) s) }
 {
@@ -121,7 +125,7 @@ fn are_in(t: CType, values: &[i64]) -> bool
     values.iter().all(|value| t.contains(*value))
 }
 
-/// The index and the value of a choice where they fit an array of so many elements of the type.
+/// The index and the value of a choice if they fit an array of `count` elements of the type.
 pub fn one_element(t: CType, count: usize, values: &[i64]) -> Result<(i64, i64), Stop>
     ensures { (s : State) → Did result s (if_fitting (one_element t count values.now) s) }
 {
@@ -131,7 +135,7 @@ pub fn one_element(t: CType, count: usize, values: &[i64]) -> Result<(i64, i64),
     }
 }
 
-/// Nothing, where the choice has no value.
+/// Nothing, if the choice has no value.
 pub fn no_value(values: &[i64]) -> Result<(), Stop>
     ensures { (s : State) → Did result s (if_fitting (no_value values.now) s) }
 {

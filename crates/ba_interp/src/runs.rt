@@ -1,11 +1,12 @@
 //! Runs of whole programs.
 
-ghost use Rattle.std.specs.Prelude.{◌≡◌, true, [], IfOk, OnOk, ◌-◌};
-ghost use Rattle.ba_tree.specs.Run.{are_bounds, enter_main, if_none_left, outcome_of, outcome_of_halt, run_main, run_of, start_of, with_input};
-ghost use Rattle.ba_tree.specs.State.{Ending};
+ghost use Rattle.std.specs.Prelude.{◌≡◌, true, length, IfOk, OnOk};
+ghost use Rattle.ba_tree.specs.Run.{are_bounds, enter_main, outcome_of_halt, run_main, run_of, start_of, with_input};
+ghost use Rattle.ba_tree.specs.State.{Ending, State};
 ghost use Rattle.ba_tree.specs.declared.run.Exit.{Exit};
 ghost use Rattle.ba_tree.specs.declared.run.Flow.{Flow};
 ghost use Rattle.ba_interp.specs.Doing.{Did};
+ghost use Rattle.ba_interp.specs.Prefixes.{choices_left, outcome_at, prefix_outcome};
 ghost use Rattle.ba_interp.specs.Settings.{context_at};
 
 use crate::execution::exec_all;
@@ -55,7 +56,7 @@ fn enter_main(
     Ok(())
 }
 
-/// The initialisers of the globals, and then `main` with the input.
+/// Executes the initialisers of the globals, and then `main` with the input.
 fn run_main(
     setting: &Setting,
     frame: Frame,
@@ -80,7 +81,7 @@ fn run_main(
     exec_all(setting, frame, &path, machine, main_body(setting.program))
 }
 
-/// The outcome of a run that was ended so.
+/// The outcome of a run that was ended early.
 fn outcome_of_halt(halt: Halt) -> Outcome
     ensures { result ≡ outcome_of_halt halt }
 {
@@ -92,30 +93,19 @@ fn outcome_of_halt(halt: Halt) -> Outcome
     }
 }
 
-/// The outcome of a run, where choices that are left are wrong.
-fn if_none_left(machine: &Machine, outcome: Outcome) -> Outcome
-    ensures { result ≡ if_none_left machine.now.choices outcome }
-{
-    if machine.has_ended() {
-        outcome
-    } else {
-        Outcome::WrongChoices
-    }
-}
-
-/// The outcome of a run that ended like this.
-fn outcome_of(machine: &Machine, ended: Result<Flow<Exit>, Stop>) -> Result<Outcome, AllocError>
-    ensures { (end : Ending (Flow Exit)) → Did ended machine.now end → IfOk result
-        (λ outcome. outcome ≡ outcome_of end) }
+/// The outcome of a run that ended like this, whatever choices are left.
+fn outcome_at(ended: Result<Flow<Exit>, Stop>) -> Result<Outcome, AllocError>
+    ensures { (s : State) (end : Ending (Flow Exit)) → Did ended s end
+        → IfOk result (λ outcome. outcome ≡ outcome_at end) }
 {
     match ended {
-        Ok(_) => Ok(if_none_left(machine, Outcome::Done)),
-        Err(Stop::Halts(halt)) => Ok(if_none_left(machine, outcome_of_halt(halt))),
+        Ok(_) => Ok(Outcome::Done),
+        Err(Stop::Halts(halt)) => Ok(outcome_of_halt(halt)),
         Err(Stop::Memory) => Err(AllocError),
     }
 }
 
-/// How a run begins: all globals 0, and no frame.
+/// The state at the start of a run: all globals 0, and no frame.
 fn start<'a>(
     alloc: Global,
     program: &Program,
@@ -128,21 +118,33 @@ fn start<'a>(
     Ok(machine)
 }
 
-/// The outcome of a run of a program on an input within these bounds, where these statements or places may be relaxed, with these
-/// choices: exactly that of the definition (C90 5.1.2.3 in this profile), for every program and input.
+/// How a run ends that may leave choices, and how many it leaves.
+#[derive(Clone, Copy, Debug, PartialEq, Eq)]
+pub struct PrefixRun {
+    pub outcome: Outcome,
+    pub left: usize,
+}
+
+/// The outcome of a run that may leave choices, and how many it leaves. It is the run of a program on an
+/// input within these bounds, where these statements or places may be relaxed. It uses up the first of these
+/// choices, as many as it needs. A choice that is missing, or that does not fit, ends it by wrong choices;
+/// one that is left does not.
 ///
-/// The bounds are within their limits: from 1 to 128 turns, and from 1 to 32 frames. The one error is want of memory.
-pub fn run(
+/// The bounds have to be within their limits: 1 to 128 iterations and 1 to 32 frames. The only error is out
+/// of memory.
+pub fn run_prefix(
     alloc: Global,
     program: &Program,
     input: &Input,
     bounds: Bounds,
     allowed: &Allowed,
     choices: &[Choice],
-) -> Result<Outcome, AllocError>
+) -> Result<PrefixRun, AllocError>
     requires bounds { are_bounds bounds ≡ true }
-    ensures { IfOk result (λ outcome. outcome
-        ≡ run_of program.now input.now bounds allowed.now choices.now) }
+    ensures outcome { IfOk result (λ run. run.outcome
+        ≡ prefix_outcome program.now input.now bounds allowed.now choices.now) }
+    ensures left { IfOk result (λ run. run.left
+        ≡ length (choices_left program.now input.now bounds allowed.now choices.now)) }
 {
     let mut machine = start(alloc, program, choices)?;
     let setting = Setting {
@@ -156,5 +158,34 @@ pub fn run(
         frames: bounds.frames - 1,
     };
     let ended = run_main(&setting, frame, input, &mut machine);
-    outcome_of(&machine, ended)
+    let outcome = outcome_at(ended)?;
+    Ok(PrefixRun {
+        outcome,
+        left: machine.left(),
+    })
+}
+
+/// The outcome of a run on an input, with what may be relaxed and with these choices. It is exactly that of
+/// the definition (C90 5.1.2.3 in this profile), for every program and input.
+///
+/// The bounds have to be within their limits: 1 to 128 iterations and 1 to 32 frames. The only error is out
+/// of memory.
+pub fn run(
+    alloc: Global,
+    program: &Program,
+    input: &Input,
+    bounds: Bounds,
+    allowed: &Allowed,
+    choices: &[Choice],
+) -> Result<Outcome, AllocError>
+    requires bounds { are_bounds bounds ≡ true }
+    ensures { IfOk result (λ outcome. outcome
+        ≡ run_of program.now input.now bounds allowed.now choices.now) }
+{
+    let run = run_prefix(alloc, program, input, bounds, allowed, choices)?;
+    if run.left == 0 {
+        Ok(run.outcome)
+    } else {
+        Ok(Outcome::WrongChoices)
+    }
 }

@@ -8,7 +8,7 @@ use std::alloc::{AllocError, AllocFailed};
 pub enum Stop {
     /// The run has ended.
     Halts(Halt),
-    /// Want of memory: nothing is known of the run.
+    /// Out of memory: nothing is known of the run.
     Memory,
 }
 

@@ -19,14 +19,14 @@ pub fn is_zero(value: i64) -> bool
     value == 0
 }
 
-/// Whether a value isn't 0, as a value of C.
+/// 1 for a value other than 0, and else 0 (a truth value of C).
 pub fn truth_of(value: i64) -> i64
     ensures { result ≡ truth_of value }
 {
     i64::from(value != 0)
 }
 
-/// The value of an operator, or a trap at this statement where it has none.
+/// The value of an operator, or a trap at this statement if it has none.
 pub fn operate(here: StmtId, op: BinOp, t: CType, a: i64, b: i64) -> Result<i64, Stop>
     ensures { (s : State) → Did result s (or_trap here (value_of op t a b) s) }
 {

@@ -1,7 +1,7 @@
 //! Lists that contracts see as lists of their items.
 //!
-//! Where clauses compare values, a field that Rust would write as `Vec<T>` is an [`Items<T>`]: a clause
-//! sees it as the list of its items, and neither its capacity nor where it lies in memory.
+//! A field that Rust would write as `Vec<T>` is an [`Items<T>`] if contracts compare its struct. A contract
+//! sees the items, but neither the capacity nor the place in memory.
 #![tactic(auto)]
 
 ghost use Rattle.std.specs.Prelude.{◌≡◌, ◌==◌, ◌≤◌, ℕ, [], ◌∷◌, ◌++◌, length, take, get_or, IfOk, OnOk, OnErr};
@@ -9,7 +9,7 @@ ghost use Rattle.std.specs.Prelude.{◌≡◌, ◌==◌, ◌≤◌, ℕ, [], ◌
 use std::alloc::{AllocError, Global};
 use std::marker::Model;
 
-/// A list of values in their order. Contracts see the list of its items and nothing else.
+/// A list of values in their order. A contract sees the list of its items and nothing else.
 #[derive(Debug, Drop)]
 pub struct Items<T> {
     items: Vec<T>,
@@ -72,7 +72,7 @@ impl<T> Items<T> {
 impl<T: Drop> Items<T> {
     /// Adds an item at the end.
     ///
-    /// The one error is want of memory, which leaves the list as it was.
+    /// The only error is out of memory, which leaves the list as it was.
     pub fn push(&mut self, item: T) -> Result<(), AllocError>
         ensures ok { OnOk result (self.new ≡ self.old ++ item ∷ []) }
         ensures err { OnErr result (self.new ≡ self.old) }
@@ -82,11 +82,11 @@ impl<T: Drop> Items<T> {
     }
 }
 
-/// A second value that contracts can't tell from the first. Making it may find no memory.
+/// Copies that no contract can tell from the original. Making one may run out of memory.
 ///
-/// It is for types that own memory and so are not `Copy`; a list of such values is one itself.
+/// The trait is for types that own memory and so are not `Copy`. A list of such values has it too.
 pub trait TryClone: Drop {
-    /// The same value once more. The one error is want of memory.
+    /// Another copy of the value. The only error is out of memory.
     fn try_clone(&self, alloc: Global) -> Result<Self, AllocError>
         ensures { IfOk result (λ clone. clone ≡ self.now) };
 }
@@ -104,7 +104,7 @@ impl<T: TryClone> TryClone for Items<T> {
 impl<T: Copy> Items<T> {
     /// The list of the slice's items.
     ///
-    /// The one error is want of memory.
+    /// The only error is out of memory.
     pub fn from_slice(alloc: Global, items: &[T]) -> Result<Items<T>, AllocError>
         ensures { IfOk result (λ list. list ≡ items.now) }
     {
@@ -114,9 +114,9 @@ impl<T: Copy> Items<T> {
     }
 }
 
-/// Makes a vector of at least so many items: what is missing is filled up.
+/// Grows a vector to at least `count` items, each new one `filler`. A longer vector stays as it is.
 ///
-/// The one error is want of memory, which leaves the vector as it was.
+/// The only error is out of memory, which leaves the vector as it was.
 pub fn fill_up<T: Copy>(items: &mut Vec<T>, count: usize, filler: T) -> Result<(), AllocError>
     ensures room { OnOk result (count ≤ length items.new.items) }
     ensures same { (k : ℕ) → get_or items.new.items k filler ≡ get_or items.old.items k filler }

@@ -1,5 +1,5 @@
-//! Which choices make a good run of a program where some of its statements are relaxed: those with
-//! which the program's run on the failing input is done.
+//! The test oracle of runs. Choices are good for a set of statements if the run on the failing input with
+//! these relaxed is `Done`.
 #![tactic(auto)]
 
 ghost use Rattle.std.specs.Prelude.{◌≡◌, IfOk, IsTrue, map, true};
@@ -17,7 +17,7 @@ use std::alloc::{AllocError, Global};
 
 /// The statements of these numbers.
 ///
-/// The one error is want of memory.
+/// The only error is out of memory.
 fn statements(alloc: Global, numbers: &[u32]) -> Result<Items<StmtId>, AllocError>
     ensures { IfOk result (λ statements. statements ≡ map stmt_of numbers.now) }
 {
@@ -46,8 +46,8 @@ pub struct ProgramJudge<'a> {
 }
 
 impl<'a> ProgramJudge<'a> {
-    /// The judge of this program on this input, within these bounds: from 1 to 128 turns of a loop, and
-    /// from 1 to 32 frames. It takes no memory.
+    /// The judge of this program on this input, within these bounds: 1 to 128 iterations and 1 to 32 frames.
+    /// It takes no memory.
     pub fn new(
         alloc: Global,
         program: &'a Program,

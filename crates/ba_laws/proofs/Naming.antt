@@ -1,4 +1,4 @@
--- Parts of a program that name statements of the program alone, where they end the run.
+-- Parts of a program that name statements of the program alone, if they end the run.
 use Rattle.std.proofs.Common.{◌≡◌, suc, zero, ℕ, ◌+◌, ℤ, pos, Bool, true, false, Option, None, Some, Result, Ok, Err, List, [], ◌∷◌, map, sym, ap, subst}
 use Rattle.std.specs.Prelude.{cond, IsSome}
 use Rattle.std.specs.Ordering.{int_eq}

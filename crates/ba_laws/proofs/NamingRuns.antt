@@ -291,7 +291,7 @@ module _ (p : Program) (allowed : Allowed) (turns : ℕ) where
           names_then (s.1 (are_before p own others known) path)
           (names_after (inner_stmts path stmts (are_behind p own others known)))
 
-      -- what is executed of a body, behind so many statements, or from a label on
+      -- what is executed of a body, after so many statements, or from a label on
       inner_behind : (path : List Step) (at : ℕ) (stmts : List InnerStmt)
           → AreStmts p (numbers_in (facts_in stmts))
           → Names p (stmts_in_order path (drop at (map (exec x) (map (λ s. s.0) stmts))))

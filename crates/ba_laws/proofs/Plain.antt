@@ -1,4 +1,4 @@
--- Parts of a program that make no choices, where nothing may be relaxed: none of them ends by wrong choices.
+-- Parts of a program that make no choices, if nothing may be relaxed: none of them ends by wrong choices.
 use Rattle.std.proofs.Common.{◌≡◌, suc, zero, ℕ, ◌+◌, ℤ, pos, true, false, Option, Ok, Err, List, [], ◌∷◌, map, refl, sym, ◌∙◌, ap, subst}
 use Rattle.std.specs.Prelude.{cond}
 use Rattle.std.specs.Ordering.{int_eq}
@@ -99,7 +99,7 @@ none_rounds tests turns past (suc left) k = none_then (tests k)
     (none_fork (none_then (turns k) (none_after (none_rounds tests turns past left (k + 1))))
     (none_give Next))
 
--- what may be chosen where something may be relaxed is evaluated as written
+-- what may be chosen if something may be relaxed is evaluated as written
 pub none_choice : {A : Type 0} {f : Act A} (p : Program) (path : List Step) (here : StmtId)
     (fitting : State → List ℤ → Option A) → MakesNone f
     → MakesNone (λ s. value_by_choice (admits p (Statements []) path here) (fitting s) f s)

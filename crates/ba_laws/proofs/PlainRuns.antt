@@ -1,4 +1,4 @@
--- Expressions, statements, calls and whole runs make no choices where nothing may be relaxed.
+-- Expressions, statements, calls and whole runs make no choices if nothing may be relaxed.
 use Rattle.std.proofs.Common.{◌≡◌, ◌≢◌, suc, zero, ℕ, ◌+◌, ◌-◌, ℤ, pos, Bool, true, false, Option, None, Some, Ok, Err, List, [], ◌∷◌, map, refl, sym, ◌∙◌, ap, subst}
 use Rattle.std.specs.Prelude.{cond, drop, length, slice_set, unsigned_abs, unwrap_or}
 use Rattle.ba_numbers.specs.Numbers.{value_of, value_of_one, converted}
@@ -258,7 +258,7 @@ module _ (p : Program) (turns : ℕ) where
         → MakesNone (stmts_in_order path (map (exec x) (map (λ s. s.0) stmts)))
     inner_stmts = none_stmts_of (exec x) (λ s. s.0) (λ s. s.1)
 
-    -- what is executed of a body, behind so many statements, or from a label on
+    -- what is executed of a body, after so many statements, or from a label on
     inner_behind : (path : List Step) (at : ℕ) (stmts : List InnerStmt)
         → MakesNone (stmts_in_order path (drop at (map (exec x) (map (λ s. s.0) stmts))))
     inner_behind path zero stmts = inner_stmts path stmts

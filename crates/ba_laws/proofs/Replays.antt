@@ -211,7 +211,7 @@ fitting_steady : {A : Type 0} (z : Option A) → Steady (if_fitting z)
 fitting_steady None s choices = refl
 fitting_steady (Some a) s choices = refl
 
--- a visit in front where all is as written
+-- a visit in front if all is as written
 kept_first : {A : Type 0} (b : Bool) (fitting : List ℤ → Option A) (f : Act A) (s : State)
     (choices rest : List Choice) (e : Ending A)
     → f (with_choices s (choices ++ rest)) ≡ e

@@ -45,7 +45,7 @@ use Rattle.ba_laws.proofs.Replays.{is_wrong, Replay, Replays, replays_as, replay
 abbrev end_call : Function → State → Flow Exit → Act ℤ
 end_call f before flow s = (Ok (result_of flow), end_frame f before s)
 
--- a call that finds other choices, where its body then ends like this
+-- a call that finds other choices, if its body then ends like this
 call_again : (p : Program) (f : Function) (args : List Argument) (body : Execution) (s : State)
     (choices : List Choice) (e : Ending (Flow Exit)) → body (with_choices (begin_frame p f args s) choices) ≡
     e
@@ -274,7 +274,7 @@ module _ (p : Program) (turns : ℕ) where
         → Replays p (λ x. stmts_in_order path (map (exec (context x)) (map (λ s. s.0) stmts)))
     inner_stmts = replays_stmts_of (λ x. exec (context x)) (λ s. s.0) (λ s. s.1)
 
-    -- what is executed of a body, behind so many statements, or from a label on
+    -- what is executed of a body, after so many statements, or from a label on
     inner_behind : (path : List Step) (at : ℕ) (stmts : List InnerStmt)
         → Replays p (λ x. stmts_in_order path (drop at (map (exec (context x)) (map (λ s. s.0) stmts))))
     inner_behind path zero stmts = inner_stmts path stmts

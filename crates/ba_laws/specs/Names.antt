@@ -6,7 +6,7 @@ use Rattle.ba_tree.specs.declared.run.Outcome.{Outcome}
 use Rattle.ba_tree.specs.declared.run.Outcome.TheVariants.{Done, AssertFails, Trap, Beyond, WrongChoices}
 use Rattle.ba_tree.specs.declared.tree.Program.{Program}
 
--- an outcome that names a statement names one that the program has
+-- an outcome that names a statement names one of the program
 abbrev pub NamesStatement : Program → Outcome → Type 0
 NamesStatement p (AssertFails stmt) = IsSome (info_of p stmt)
 NamesStatement p (Trap stmt) = IsSome (info_of p stmt)

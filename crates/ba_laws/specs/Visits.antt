@@ -1,4 +1,4 @@
--- Runs that differ in what may be relaxed, and in the choices that keep statements as they are written.
+-- Runs that differ in what may be relaxed, and in the choices that keep statements as written.
 
 use Rattle.std.specs.Prelude.{◌≡◌, Bool, false, cond, List, [], ◌∷◌}
 use Rattle.ba_numbers.specs.declared.ids.StmtId.{StmtId}
@@ -12,13 +12,14 @@ use Rattle.ba_tree.specs.declared.run.Input.{Input}
 use Rattle.ba_tree.specs.declared.run.Step.{Step}
 use Rattle.ba_tree.specs.declared.tree.Program.{Program}
 
--- An execution of a statement that some run may relax, with the steps around it, innermost first, and the choice
--- that is made there: Keep where the run at hand may not relax it.
+-- An execution of a statement, with the steps around it, innermost first, and its choice. Some run may relax
+-- it; the choice is Keep if the given run may not.
 pub record Visit : Type 0 where
   pub path : List Step
   pub stmt : StmtId
   pub choice : Choice
 
+-- the execution may be relaxed
 abbrev pub is_relaxed_at : Program → Allowed → Visit → Bool
 is_relaxed_at p allowed visit = admits p allowed visit.path visit.stmt
 
@@ -28,6 +29,7 @@ chosen p allowed [] = []
 chosen p allowed (visit ∷ visits) =
     cond (is_relaxed_at p allowed visit) (visit.choice ∷ chosen p allowed visits) (chosen p allowed visits)
 
+-- an execution that may not be relaxed has the choice Keep
 abbrev pub IsKept : Program → Allowed → Visit → Type 0
 IsKept p allowed visit = is_relaxed_at p allowed visit ≡ false → visit.choice ≡ Keep
 
@@ -36,9 +38,9 @@ abbrev pub AreKept : Program → Allowed → List Visit → Type 0
 AreKept p allowed [] = Unit {0}
 AreKept p allowed (visit ∷ visits) = IsKept p allowed visit × AreKept p allowed visits
 
--- The executions that a run with these choices comes to, in order. Whatever else may be relaxed, the outcome is the
--- same as long as the choice at each execution that may not be relaxed is Keep: these choices are left out, and Keep
--- is put in where more may be relaxed.
+-- The executions that a run with these choices comes to, in order. The run has the same outcome if other
+-- statements may be relaxed, as long as the others' choices are Keep. A choice Keep is left out if its
+-- execution may not be relaxed, and put in if it may.
 pub record HasVisits (p : Program) (i : Input) (b : Bounds) (allowed : Allowed)
     (choices : List Choice) : Type 0 where
   pub visits : List Visit

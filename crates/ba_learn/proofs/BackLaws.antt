@@ -8,9 +8,9 @@ use Rattle.std.specs.List.{All}
 use Rattle.std.specs.List.Sorted.{IsPermutation}
 use Rattle.ba_lits.specs.Literals.{Literal, index_of, lit_at, no_literal}
 use Rattle.ba_watch.specs.Threads.{Clause, index_at}
-use Rattle.ba_watch.specs.Trails.{value_of, place_of, decided, level_at, kept}
+use Rattle.ba_watch.specs.Trails.{value_of, trail_index, decided, level_at, kept}
 use Rattle.ba_watch.specs.Propagation.{State, plain_lits, clause_in, lits_in, SameClause, IsReason, IsAsserting, AddsClause, KeepsFacts}
-use Rattle.ba_watch.proofs.Values.{value_of-take, value_of-take_none, place_of-some, place_of-take}
+use Rattle.ba_watch.proofs.Values.{value_of-take, value_of-take_none, trail_index-some, trail_index-take}
 use Rattle.ba_watch.proofs.Levels.{decided-kept, kept_below, kept_above, kept-le}
 use Rattle.ba_learn.specs.Levels.{level_in, IsBacked}
 use Rattle.ba_learn.specs.Backjumps.{after_backtrack, IsUnitAt}
@@ -22,23 +22,23 @@ pub back_level : (s : State) (lits : List Literal) (back : ℕ) → IsBacked s l
 back_level s lits back b = decided-kept back s.reasons (omega (arith, b.lower))
 
 module _ (s : State) (lits : List Literal) (back : ℕ) (facts : KeepsFacts s) (b : IsBacked s lits back) where
-  on_trail : (k : ℕ) → k < length lits → place_of s.trail (lit_at lits k).variable < length s.trail
-  on_trail k k_in = place_of-some s.trail (lit_at lits k) false
+  on_trail : (k : ℕ) → k < length lits → trail_index s.trail (lit_at lits k).variable < length s.trail
+  on_trail k k_in = trail_index-some s.trail (lit_at lits k) false
       (false_at (value_of s.trail) lits b.false_ k k_in)
 
   stays : (k : ℕ) → k < length lits → level_in s lits k ≤ back →
-      place_of s.trail (lit_at lits k).variable < kept back s.reasons
+      trail_index s.trail (lit_at lits k).variable < kept back s.reasons
   stays k k_in le = omega (
     arith,
-    kept_above back (place_of s.trail (lit_at lits k).variable + 1) s.reasons
+    kept_above back (trail_index s.trail (lit_at lits k).variable + 1) s.reasons
         le (omega (arith, on_trail k k_in, facts.trail.same_length)),
   )
 
   goes : (k : ℕ) → k < length lits → back < level_in s lits k →
-      kept back s.reasons ≤ place_of s.trail (lit_at lits k).variable
+      kept back s.reasons ≤ trail_index s.trail (lit_at lits k).variable
   goes k k_in more = omega (
     arith,
-    kept_below back (place_of s.trail (lit_at lits k).variable + 1) s.reasons
+    kept_below back (trail_index s.trail (lit_at lits k).variable + 1) s.reasons
         more,
   )
 
@@ -68,11 +68,12 @@ module _ (s : State) (lits : List Literal) (back : ℕ) (facts : KeepsFacts s) (
         recent_false = stays_false k.0 k.1 (omega (arith, k.3));
         recent_level =
             let n : ℕ = kept back s.reasons in
-            let below : place_of s.trail (lit_at lits k.0).variable < n =
+            let below : trail_index s.trail (lit_at lits k.0).variable < n =
             stays k.0 k.1 (omega (arith, k.3)) in
             let n_le : n ≤ length s.trail = omega (arith, kept-le back s.reasons, facts.trail.same_length) in
-            ap (level_at (take n s.reasons)) (place_of-take n s.trail (lit_at lits k.0).variable below n_le)
-            ∙ (ap decided (take-take (place_of s.trail (lit_at lits k.0).variable + 1) n s.reasons
+            ap (level_at (take n s.reasons))
+            (trail_index-take n s.trail (lit_at lits k.0).variable below n_le)
+            ∙ (ap decided (take-take (trail_index s.trail (lit_at lits k.0).variable + 1) n s.reasons
             (omega arith)) ∙ (k.3 ∙ sym (back_level s lits back b)));
       })
       b.met

@@ -7,14 +7,14 @@ use Rattle.ba_lits.specs.Literals.{Literal, negate, index_of, lit_at, IsClause}
 use Rattle.ba_lits.specs.Hints.{has_literal}
 use Rattle.ba_lits.proofs.Members.{same_from_index, negate-negate, literal_found, has_literal-at}
 use Rattle.ba_watch.specs.Chains.{occurrences}
-use Rattle.ba_watch.specs.Trails.{value_of, place_of, place_if, reason_of}
+use Rattle.ba_watch.specs.Trails.{value_of, trail_index, trail_index_if, reason_of}
 use Rattle.ba_watch.specs.Propagation.{State, clause_in, lits_in, IsReason, KeepsFacts}
-use Rattle.ba_watch.proofs.Values.{place_of-some}
+use Rattle.ba_watch.proofs.Values.{trail_index-some}
 use Rattle.ba_learn.specs.Live.{Follows}
 use Rattle.ba_learn.specs.Levels.{IsCoreOf}
 use Rattle.ba_learn.specs.Resolving.{Work, is_seen, is_pending, MayKeep, MayStart, number_in, number_at, negated_at, SortsNumbers, SortsLiterals}
 use Rattle.ba_learn.proofs.WorkLaws.{place-is}
-use Rattle.ba_learn.proofs.ReasonLaws.{reason_below, reason_live, place_of-front_some}
+use Rattle.ba_learn.proofs.ReasonLaws.{reason_below, reason_live, trail_index-front_some}
 use Rattle.ba_learn.proofs.FollowLaws.{false_negates, false_further, known, refutes}
 use Rattle.ba_learn.proofs.Finishes.{HasEnded}
 use Rattle.ba_learn.proofs.SortedLaws.{HasOne, kept_within, lead_in, kept_in, literal_of, literals_free, is_clause}
@@ -34,9 +34,10 @@ pending_above high w q e = (
     to q n b e = grind (arith, nat_tests)
 
 module _ (s : State) (facts : KeepsFacts s) (lit : Literal) (p r : ℕ) (is_false : value_of s.trail lit
-    ≡ Some false) (p_is : p ≡ place_of s.trail lit.variable) (r_is : get_or s.reasons p None ≡ Some r) where
+    ≡ Some false) (p_is : p ≡ trail_index s.trail lit.variable)
+    (r_is : get_or s.reasons p None ≡ Some r) where
   p_within : p < length s.trail
-  p_within = omega (arith, p_is, place_of-some s.trail lit false is_false)
+  p_within = omega (arith, p_is, trail_index-some s.trail lit false is_false)
 
   pub core_start : MayStart s p (p + 1) (lits_in s.clauses r)
   core_start = record {
@@ -60,8 +61,8 @@ module _ (s : State) (facts : KeepsFacts s) (lit : Literal) (p r : ℕ) (is_fals
     seen : is_seen w p ≡ true
     seen =
         let k = literal_found (lit_at s.trail p) (lits_in s.clauses r) reason.has in
-        let at : place_of s.trail (lit_at (lits_in s.clauses r) k.0).variable ≡ p =
-        ap (λ (l : Literal). place_of s.trail l.variable) (k.2 ∙ sym lead_same) ∙ sym p_is in
+        let at : trail_index s.trail (lit_at (lits_in s.clauses r) k.0).variable ≡ p =
+        ap (λ (l : Literal). trail_index s.trail l.variable) (k.2 ∙ sym lead_same) ∙ sym p_is in
         sym (ap (is_seen w) at) ∙ e.met k.0 k.1
 
     pub core_one : HasOne s (p + 1) w p (negate lit)
@@ -105,9 +106,9 @@ module _ (s : State) (facts : KeepsFacts s) (lit : Literal) (p r : ℕ) (is_fals
           clauses are (number_in s r) x (false_further s.trail p x front) (e.met k k_in)
           (λ pending. absurd (omega (
             arith,
-            place_of-front_some s.trail p x false (omega (arith, p_within))
+            trail_index-front_some s.trail p x false (omega (arith, p_within))
                 front,
-            (pending_above (p + 1) w (place_of s.trail x.variable) pending).0,
+            (pending_above (p + 1) w (trail_index s.trail x.variable) pending).0,
             floor,
           ))))
           (cases_eq (index_of (lit_at (lits_in s.clauses r) k)) (index_of (lit_at s.trail p))))
@@ -127,13 +128,14 @@ module _ (s : State) (facts : KeepsFacts s) (lit : Literal) (p r : ℕ) (is_fals
 
 -- what the code reads
 pub core_place : (s : State) (lit : Literal) (v p : ℕ) → v ≡ lit.variable →
-    value_of s.trail lit ≡ Some false → place_if s.trail v ≡ Some p → p ≡ place_of s.trail lit.variable
+    value_of s.trail lit ≡ Some false → trail_index_if s.trail v ≡ Some p →
+    p ≡ trail_index s.trail lit.variable
 core_place s lit v p v_is is_false e =
-    place-is s.trail lit.variable p (place_of-some s.trail lit false is_false)
-    (ap (place_if s.trail) (sym v_is) ∙ e)
+    place-is s.trail lit.variable p (trail_index-some s.trail lit false is_false)
+    (ap (trail_index_if s.trail) (sym v_is) ∙ e)
 
 pub core_reason : (s : State) (lit : Literal) (v p r : ℕ) → v ≡ lit.variable →
-    p ≡ place_of s.trail lit.variable → reason_of s.trail s.reasons v ≡ Some r →
+    p ≡ trail_index s.trail lit.variable → reason_of s.trail s.reasons v ≡ Some r →
     get_or s.reasons p None ≡ Some r
 core_reason s lit v p r v_is p_is e = ap (λ (x : ℕ). get_or s.reasons x None) p_is
     ∙ (ap (reason_of s.trail s.reasons) (sym v_is) ∙ e)

@@ -9,7 +9,7 @@ use Rattle.ba_lits.specs.Literals.{Literal, lit_at}
 use Rattle.ba_watch.specs.Chains.{occurrences}
 use Rattle.ba_watch.specs.Trails.{value_of, decided}
 use Rattle.ba_watch.specs.Propagation.{State, clause_in, lits_in, is_false, KeepsFacts}
-use Rattle.ba_watch.proofs.Values.{place_of-some}
+use Rattle.ba_watch.proofs.Values.{trail_index-some}
 use Rattle.ba_watch.proofs.Levels.{decided-take_drop}
 use Rattle.ba_watch.proofs.Walks.{at_occurs}
 use Rattle.ba_learn.specs.Live.{Follows}
@@ -19,7 +19,7 @@ use Rattle.ba_learn.proofs.FollowLaws.{false_at, known, refutes}
 -- the literals of a false clause are on the trail
 pub false_below : (s : State) (lits : List Literal) → is_false (value_of s.trail) lits ≡ true →
     AreBelow s (length s.trail) lits
-false_below s lits h k k_in = place_of-some s.trail (lit_at lits k) false
+false_below s lits h k k_in = trail_index-some s.trail (lit_at lits k) false
     (false_at (value_of s.trail) lits h k k_in)
 
 pub may_start : (s : State) (n : ℕ) (lits : List Literal) → n ≡ length s.trail →

@@ -13,13 +13,13 @@ use Rattle.ba_lits.specs.Hints.{has_literal, Refutes, replay}
 use Rattle.ba_lits.specs.Satisfaction.{one_if}
 use Rattle.ba_lits.proofs.Members.{same_from_index}
 use Rattle.ba_watch.specs.Chains.{occurrences}
-use Rattle.ba_watch.specs.Trails.{same_sign, value_of, place_of, IsTrail}
+use Rattle.ba_watch.specs.Trails.{same_sign, value_of, trail_index, IsTrail}
 use Rattle.ba_watch.specs.Propagation.{State, plain_lits, clause_in, lits_in, is_false, falsified, IsReason, KeepsFacts}
-use Rattle.ba_watch.proofs.Values.{value_of-more, value_of-place, lit_at-place, place_of-some, same_sign_false, none_apart}
+use Rattle.ba_watch.proofs.Values.{value_of-more, value_of-place, lit_at-place, trail_index-some, same_sign_false, none_apart}
 use Rattle.ba_learn.specs.Live.{IsSame, AreLive}
 use Rattle.ba_learn.specs.Resolving.{Work, is_seen, is_pending, IsWork, AreSeen, reason_lits, AreCovered, number_of, number_in, reason_number, number_at, negated_at, SortsNumbers}
 use Rattle.ba_learn.proofs.Weights.{total-permutation}
-use Rattle.ba_learn.proofs.ReasonLaws.{reason_live, some_within, place_of-front_some}
+use Rattle.ba_learn.proofs.ReasonLaws.{reason_live, some_within, trail_index-front_some}
 use Rattle.ba_learn.proofs.Standings.{times-permutation, times-once}
 use Rattle.ba_learn.proofs.Replays.{IsAscending, IsKnown, IsKnownBefore, IsGiven, runs}
 
@@ -40,7 +40,7 @@ occurs_at p (x ∷ xs) some = ⊎_elim
     later : (n : ℕ) → x ≢ p → 0 < cond (eqb x p) 1 0 + n → 0 < n
     later n ne some = grind (arith, nat_tests)
 
--- a sorted list in which no place stands twice ascends
+-- a sorted list in which no place occurs twice ascends
 pub ascends : (xs : List ℕ) → IsNonDecreasingBy (λ (x : ℕ). x) xs → ((p : ℕ) → occurrences p xs ≤ 1) →
     IsAscending xs
 ascends [] up once = tt
@@ -62,15 +62,15 @@ some_value (Some x) some = (x, refl)
 
 -- a false literal negates the one of the trail
 pub false_negates : (T : List Literal) (x : Literal) → value_of T x ≡ Some false →
-    x ≡ negate (lit_at T (place_of T x.variable))
+    x ≡ negate (lit_at T (trail_index T x.variable))
 false_negates T x is_false =
-    let within : place_of T x.variable < length T = place_of-some T x false is_false in
-    let v : (lit_at T (place_of T x.variable)).variable ≡ x.variable = lit_at-place T x.variable within in
-    let sign : same_sign (lit_at T (place_of T x.variable)).negated x.negated ≡ false =
+    let within : trail_index T x.variable < length T = trail_index-some T x false is_false in
+    let v : (lit_at T (trail_index T x.variable)).variable ≡ x.variable = lit_at-place T x.variable within in
+    let sign : same_sign (lit_at T (trail_index T x.variable)).negated x.negated ≡ false =
     same_Some _ false (sym (value_of-place T x within) ∙ is_false) in
-    both x.variable (lit_at T (place_of T x.variable)).variable x.negated
-    (not (lit_at T (place_of T x.variable)).negated) (sym v)
-    (same_sign_false (lit_at T (place_of T x.variable)).negated x.negated sign)
+    both x.variable (lit_at T (trail_index T x.variable)).variable x.negated
+    (not (lit_at T (trail_index T x.variable)).negated) (sym v)
+    (same_sign_false (lit_at T (trail_index T x.variable)).negated x.negated sign)
   where
     both : (a b : ℕ) (m n : Bool) → a ≡ b → m ≡ n →
         ◌≡◌ {A = Literal} (record { variable = a; negated = m }) (record { variable = b; negated = n })
@@ -161,23 +161,23 @@ module _ (s : State) (facts : KeepsFacts s) (high : ℕ) (w : Work) (work : IsWo
     module _ (live : ℕ → Option (List Literal)) (are : AreLive s.clauses live) where
       -- a false literal whose place is seen is known
       pub known : (last : ℕ) (x : Literal) → value_of s.trail x ≡ Some false →
-          is_seen w (place_of s.trail x.variable) ≡ true
-          → (is_pending high w (place_of s.trail x.variable) ≡ true →
-          has_literal (negated_at s (place_of s.trail x.variable)) lits ≡ true) →
+          is_seen w (trail_index s.trail x.variable) ≡ true
+          → (is_pending high w (trail_index s.trail x.variable) ≡ true →
+          has_literal (negated_at s (trail_index s.trail x.variable)) lits ≡ true) →
           IsKnown live (lit_at s.trail) (number_at s) lits places last x
       known last x is_false seen pending =
-          let is : x ≡ negated_at s (place_of s.trail x.variable) = false_negates s.trail x is_false in
+          let is : x ≡ negated_at s (trail_index s.trail x.variable) = false_negates s.trail x is_false in
           ⊎_elim
           (λ kept. inl (subst (λ (y : Literal). has_literal y lits ≡ true) (sym is)
-          (kept_in (place_of s.trail x.variable) kept)))
+          (kept_in (trail_index s.trail x.variable) kept)))
           (λ rest. ⊎_elim (λ resolved. inr (
-            place_of s.trail x.variable,
+            trail_index s.trail x.variable,
             in_places
-                (place_of s.trail x.variable) resolved,
+                (trail_index s.trail x.variable) resolved,
             is,
           )) (λ p. inl
           (subst (λ (y : Literal). has_literal y lits ≡ true) (sym is) (pending p))) rest)
-          (seen_parts (place_of s.trail x.variable) seen)
+          (seen_parts (trail_index s.trail x.variable) seen)
 
       -- the clause that a live reference names
       same_some : (o : Option (List Literal)) (ls : List Literal) → IsSame o ls →
@@ -221,23 +221,23 @@ module _ (s : State) (facts : KeepsFacts s) (high : ℕ) (w : Work) (work : IsWo
                 (λ other.
                 let x : Literal = lit_at (lits_in s.clauses r.0) k in
                 let front : value_of (take p s.trail) x ≡ Some false = reason.others k k_in other in
-                let before : place_of s.trail x.variable < p =
-                place_of-front_some s.trail p x false (omega arith) front in
-                let is : x ≡ negated_at s (place_of s.trail x.variable) =
+                let before : trail_index s.trail x.variable < p =
+                trail_index-front_some s.trail p x false (omega arith) front in
+                let is : x ≡ negated_at s (trail_index s.trail x.variable) =
                 false_negates s.trail x (false_further s.trail p x front) in
                 inr (⊎_elim
                 (λ kept. inl (subst (λ (y : Literal). has_literal y lits ≡ true) (sym is)
-                (kept_in (place_of s.trail x.variable) kept)))
+                (kept_in (trail_index s.trail x.variable) kept)))
                 (λ rest. ⊎_elim (λ res. inr (
-                  place_of s.trail x.variable,
+                  trail_index s.trail x.variable,
                   in_places
-                      (place_of s.trail x.variable) res,
+                      (trail_index s.trail x.variable) res,
                   before,
                   is,
                 ))
                 (λ pend. inl (subst (λ (y : Literal). has_literal y lits ≡ true) (sym is)
-                (pending_in p (place_of s.trail x.variable) resolved before pend))) rest)
-                (seen_parts (place_of s.trail x.variable) (seen k k_in))))
+                (pending_in p (trail_index s.trail x.variable) resolved before pend))) rest)
+                (seen_parts (trail_index s.trail x.variable) (seen k k_in))))
                 (cases_eq (index_of (lit_at (lits_in s.clauses r.0) k)) (index_of (lit_at s.trail p)))));
           }
 

@@ -11,16 +11,16 @@ use Rattle.ba_lits.specs.Hints.{has_literal}
 use Rattle.ba_lits.specs.Satisfaction.{one_if}
 use Rattle.ba_watch.specs.Chains.{occurrences}
 use Rattle.ba_lits.proofs.Members.{literal_found, has_literal-at}
-use Rattle.ba_watch.specs.Trails.{value_of, place_of, decided, level_at}
+use Rattle.ba_watch.specs.Trails.{value_of, trail_index, decided, level_at}
 use Rattle.ba_watch.specs.Propagation.{State, plain_lits, clause_in, lits_in, is_false, is_unit, falsified, KeepsFacts}
-use Rattle.ba_watch.proofs.Values.{value_of-take, value_of-take_none, value_of-at, place_of-some}
+use Rattle.ba_watch.proofs.Values.{value_of-take, value_of-take_none, value_of-at, trail_index-some}
 use Rattle.ba_watch.proofs.Levels.{decided-take_drop, decided-take-le, decided-take_none}
 use Rattle.ba_watch.proofs.Facts.{is_false-all, value_of-negate}
 use Rattle.ba_learn.specs.Live.{IsSame, AreLive, Follows, IsQuiet, IsNewTo}
 use Rattle.ba_learn.specs.Levels.{IsShort, level_in, IsReached, IsBacked}
-use Rattle.ba_learn.specs.Resolving.{Work, count_below, is_seen, is_above, is_pending, IsWork, AreSeen, place_in, IsStart, number_in, number_at, negated_at, SortsNumbers, SortsLiterals, IsAbsorbed, AreAbsorbed, IsMinimised, reason_lits}
+use Rattle.ba_learn.specs.Resolving.{Work, count_below, is_seen, is_above, is_pending, IsWork, AreSeen, trail_index_in, IsStart, number_in, number_at, negated_at, SortsNumbers, SortsLiterals, IsAbsorbed, AreAbsorbed, IsMinimised, reason_lits}
 use Rattle.ba_learn.proofs.ResolveLaws.{decided-zero, count_below-more}
-use Rattle.ba_learn.proofs.ReasonLaws.{place_of-at, reason_below}
+use Rattle.ba_learn.proofs.ReasonLaws.{trail_index-at, reason_below}
 use Rattle.ba_learn.proofs.FollowLaws.{false_at, known, refutes}
 use Rattle.ba_learn.proofs.Finishes.{HasEnded, false_below}
 use Rattle.ba_learn.proofs.SortedLaws.{HasOne, kept_within, lead_in, kept_in, literal_of, literals_free, is_clause}
@@ -69,7 +69,7 @@ count_below-none f p n lt e = step (f p) refl
 later_literal : (T : List Literal) (d : ℕ) (xs : List Literal) →
     ((k : ℕ) → k < length xs → value_of T (lit_at xs k) ≡ Some false) →
     is_false (value_of (take d T)) xs ≡ false → (k : ℕ) × (k < length xs)
-    × (d ≤ place_of T (lit_at xs k).variable)
+    × (d ≤ trail_index T (lit_at xs k).variable)
 later_literal T d [] all e = absurd (cc e)
 later_literal T d (x ∷ xs) all e = ⊎_elim
     (λ below.
@@ -78,7 +78,7 @@ later_literal T d (x ∷ xs) all e = ⊎_elim
     (rest (value_of (take d T) x) (is_false (value_of (take d T)) xs) front e) in
     (suc r.0, omega (arith, r.1), r.2))
     (λ above. (0, omega arith, above))
-    (cases_lt (place_of T x.variable) d)
+    (cases_lt (trail_index T x.variable) d)
   where
     rest : (v : Option Bool) (b : Bool) → v ≡ Some false → (falsified v && b) ≡ false → b ≡ false
     rest None b is h = absurd (cc is)
@@ -94,7 +94,7 @@ some_pending s w conflict facts start live is_false' seen work =
     let k = later_literal s.trail w.floor (lits_in s.clauses conflict)
     (false_at (value_of s.trail) (lits_in s.clauses conflict) is_false')
     (complete.none_false conflict live) in
-    let p : ℕ = place_in s (lits_in s.clauses conflict) k.0 in
+    let p : ℕ = trail_index_in s (lits_in s.clauses conflict) k.0 in
     omega (
       arith,
       work.pending,
@@ -160,8 +160,8 @@ module _ (s : State) (facts : KeepsFacts s) (w : Work) (u conflict : ℕ) (e : H
   within : u < length s.trail
   within = e.work.ranged u seen
 
-  place_at : (q : ℕ) → q < length s.trail → place_of s.trail (lit_at s.trail q).variable ≡ q
-  place_at q q_in = place_of-at s.trail q q_in (facts.trail.fresh q q_in)
+  place_at : (q : ℕ) → q < length s.trail → trail_index s.trail (lit_at s.trail q).variable ≡ q
+  place_at q q_in = trail_index-at s.trail q q_in (facts.trail.fresh q q_in)
 
   in_clause : has_literal (negated_at s u) lits ≡ true
   in_clause = lead_in s facts (u + 1) w e.work e.waiting u (negated_at s u) one lits sorted
@@ -248,7 +248,7 @@ module _ (s : State) (facts : KeepsFacts s) (w : Work) (u conflict : ℕ) (e : H
       others = λ k k_in ne. ⊎_elim
           (λ is. absurd (ne (ap index_of is)))
           (λ q. value_of-take w.floor s.trail (lit_at lits k)
-          (omega (arith, ap (λ (l : Literal). place_of s.trail l.variable) q.3, place_at q.0 q.2, q.1))
+          (omega (arith, ap (λ (l : Literal). trail_index s.trail l.variable) q.3, place_at q.0 q.2, q.1))
           ∙ each_false k k_in)
           (each k k_in);
     };
@@ -256,8 +256,9 @@ module _ (s : State) (facts : KeepsFacts s) (w : Work) (u conflict : ℕ) (e : H
     quiet = quiet clauses are;
   }
 
-  pub analysed_placed : (k : ℕ) → k < length lits → place_of s.trail (lit_at lits k).variable < length s.trail
-  analysed_placed k k_in = place_of-some s.trail (lit_at lits k) false (each_false k k_in)
+  pub analysed_placed : (k : ℕ) → k < length lits →
+      trail_index s.trail (lit_at lits k).variable < length s.trail
+  analysed_placed k k_in = trail_index-some s.trail (lit_at lits k) false (each_false k k_in)
 
   kept_seen : (q : ℕ) → 0 < occurrences q w.kept → is_seen w q ≡ true
   kept_seen q some = part (occurrences q w.kept) (occurrences q w.resolved) (occurrences q w.waiting)
@@ -268,10 +269,11 @@ module _ (s : State) (facts : KeepsFacts s) (w : Work) (u conflict : ℕ) (e : H
       part k r v a false some h = absurd (omega arith)
 
   -- what is in the clause is seen
-  in_seen : (x : Literal) → has_literal x lits ≡ true → is_seen w (place_of s.trail x.variable) ≡ true
+  in_seen : (x : Literal) → has_literal x lits ≡ true → is_seen w (trail_index s.trail x.variable) ≡ true
   in_seen x has = ⊎_elim
-      (λ is. ap (is_seen w) (ap (λ (l : Literal). place_of s.trail l.variable) is ∙ place_at u within) ∙ seen)
-      (λ q. ap (is_seen w) (ap (λ (l : Literal). place_of s.trail l.variable) q.2
+      (λ is. ap (is_seen w) (ap (λ (l : Literal). trail_index s.trail l.variable) is ∙ place_at u within)
+      ∙ seen)
+      (λ q. ap (is_seen w) (ap (λ (l : Literal). trail_index s.trail l.variable) q.2
       ∙ place_at q.0 (kept_within s facts (u + 1) w e.work e.waiting u (negated_at s u) one lits sorted
       q.0 q.1)) ∙ kept_seen q.0 q.1)
       (literal_of s facts (u + 1) w e.work e.waiting u (negated_at s u) one lits sorted x has)
@@ -281,15 +283,15 @@ module _ (s : State) (facts : KeepsFacts s) (w : Work) (u conflict : ℕ) (e : H
       (λ is. omega (
         arith,
         lower,
-        ap (λ (l : Literal). level_at s.reasons (place_of s.trail l.variable)) is,
+        ap (λ (l : Literal). level_at s.reasons (trail_index s.trail l.variable)) is,
         ap (level_at s.reasons) (place_at u within),
         level_above s facts w.floor start u above within,
       ))
       (λ q.
       let q_in : q.0 < length s.trail = kept_within s facts (u + 1) w e.work e.waiting u (negated_at s u)
       one lits sorted q.0 q.1 in
-      let place : place_of s.trail (lit_at lits k).variable ≡ q.0 =
-      ap (λ (l : Literal). place_of s.trail l.variable) q.2 ∙ place_at q.0 q_in in
+      let place : trail_index s.trail (lit_at lits k).variable ≡ q.0 =
+      ap (λ (l : Literal). trail_index s.trail l.variable) q.2 ∙ place_at q.0 q_in in
       let r_is : get_or s.reasons q.0 None ≡ Some covered.reason =
       ap (λ (x : ℕ). get_or s.reasons x None) (sym place) ∙ covered.is in
       short q.0 q.1 (
@@ -299,7 +301,7 @@ module _ (s : State) (facts : KeepsFacts s) (w : Work) (u conflict : ℕ) (e : H
             (λ j j_in. (
               absorbed_place q.0 covered.reason q_in r_is j j_in,
               ⊎_elim
-                  (λ same. inl (ap (is_seen w) (ap (λ (l : Literal). place_of s.trail l.variable) same
+                  (λ same. inl (ap (is_seen w) (ap (λ (l : Literal). trail_index s.trail l.variable) same
                   ∙ place) ∙ kept_seen q.0 q.1))
                   (λ rest. ⊎_elim (λ has. inl (in_seen (lit_at (lits_in s.clauses covered.reason) j) has))
                   (λ z. inr z) rest)
@@ -310,7 +312,7 @@ module _ (s : State) (facts : KeepsFacts s) (w : Work) (u conflict : ℕ) (e : H
       (has_literal-at lits k k_in))
     where
       absorbed_place : (q r : ℕ) → q < length s.trail → get_or s.reasons q None ≡ Some r → (j : ℕ) →
-          j < length (lits_in s.clauses r) → place_of s.trail (lit_at (lits_in s.clauses r) j).variable
+          j < length (lits_in s.clauses r) → trail_index s.trail (lit_at (lits_in s.clauses r) j).variable
           < length s.trail
       absorbed_place q r q_in is j j_in = omega (arith, reason_below s q r facts q_in is j j_in)
 
@@ -321,7 +323,7 @@ module _ (s : State) (facts : KeepsFacts s) (w : Work) (u conflict : ℕ) (e : H
     present_at = literal_found (negated_at s u) lits in_clause
 
     present_is : level_in s lits present_at.0 ≡ decided s.reasons
-    present_is = ap (λ (l : Literal). level_at s.reasons (place_of s.trail l.variable)) present_at.2
+    present_is = ap (λ (l : Literal). level_at s.reasons (trail_index s.trail l.variable)) present_at.2
         ∙ (ap (level_at s.reasons) (place_at u within) ∙ level_above s facts w.floor start u above within)
 
     other : (k : ℕ) → k < length lits → k ≢ present_at.0 → level_in s lits k ≤ back
@@ -345,7 +347,7 @@ module _ (s : State) (facts : KeepsFacts s) (w : Work) (u conflict : ℕ) (e : H
         (λ q. greatest k k_in (omega (
           arith,
           ap (λ (l : Literal). level_at s.reasons
-              (place_of s.trail l.variable)) q.3,
+              (trail_index s.trail l.variable)) q.3,
           ap (level_at s.reasons) (place_at q.0 q.2),
           level_below s
               facts w.floor start q.0 q.1,

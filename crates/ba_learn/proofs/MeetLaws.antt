@@ -8,7 +8,7 @@ use Rattle.std.proofs.lemmas.Bool.Decides.{nat_tests}
 use Rattle.ba_lits.specs.Literals.{Literal, lit_at, no_literal}
 use Rattle.ba_lits.specs.Satisfaction.{one_if}
 use Rattle.ba_watch.specs.Chains.{occurrences}
-use Rattle.ba_watch.specs.Trails.{place_of, level_at}
+use Rattle.ba_watch.specs.Trails.{trail_index, level_at}
 use Rattle.ba_watch.specs.Propagation.{State}
 use Rattle.ba_learn.specs.Resolving.{Work, count_below, is_seen, is_above, MayKeep, IsWork, Parts, ToPending, ToKept, ToWaiting, AreBelow, MayMeet, Meets, MustResolve, IsAbsorbed, AreAbsorbed, IsInert}
 use Rattle.ba_learn.proofs.WorkLaws.{occurrences-push, pushed_cases, count_below-same, count_below-add, count_below-bound}
@@ -154,14 +154,14 @@ module _ (s : State) (old : Work) (m : List Bool) (place : ℕ) (within : place 
     below_one n place below,
   )
 
-  zero_level : (l : Literal) → place ≡ place_of s.trail l.variable → AreAbsorbed s (is_seen old) (l ∷ []) →
+  zero_level : (l : Literal) → place ≡ trail_index s.trail l.variable → AreAbsorbed s (is_seen old) (l ∷ []) →
       level_at s.reasons place ≡ 0
   zero_level l is all = ⊎_elim
       (λ m. absurd (cc (sym m ∙ (ap (is_seen old) (sym is) ∙ fresh))))
       (λ z. ap (level_at s.reasons) is ∙ z)
       (All-head (IsAbsorbed s (is_seen old)) l [] all).1
 
-  inert_seen : (l : Literal) → place ≡ place_of s.trail l.variable → AreAbsorbed s (is_seen old) (l ∷ []) →
+  inert_seen : (l : Literal) → place ≡ trail_index s.trail l.variable → AreAbsorbed s (is_seen old) (l ∷ []) →
       (p : ℕ) → get_or m p false ≡ true → (is_seen old p ≡ true) ⊎ (level_at s.reasons p ≡ 0)
   inert_seen l is all p e = ⊎_elim (λ same. inr (ap (level_at s.reasons) same ∙ zero_level l is all))
       (λ was. inl was) (seen_cases p e)
@@ -170,7 +170,7 @@ module _ (s : State) (old : Work) (m : List Bool) (place : ℕ) (within : place 
   not_kept true shallow may z = absurd (cc shallow)
   not_kept false shallow may z = omega (arith, may, z)
 
-  pub met_new : (new : Work) (l : Literal) → place ≡ place_of s.trail l.variable →
+  pub met_new : (new : Work) (l : Literal) → place ≡ trail_index s.trail l.variable →
       Parts s (record old { seen = m }) new place → Meets s old new (l ∷ [])
   met_new new l is (ToPending above e) = subst (λ (w : Work). Meets s old w (l ∷ [])) (sym e) (record {
     grows = grown;
@@ -227,7 +227,7 @@ module _ (s : State) (old : Work) (m : List Bool) (place : ℕ) (within : place 
       first k lt = omega arith
 
 -- a literal that was seen already
-pub met_old : (s : State) (w : Work) (l : Literal) (place : ℕ) → place ≡ place_of s.trail l.variable →
+pub met_old : (s : State) (w : Work) (l : Literal) (place : ℕ) → place ≡ trail_index s.trail l.variable →
     is_seen w place ≡ true → Meets s w w (l ∷ [])
 met_old s w l place is seen = record {
   grows = λ p e. e;
@@ -297,8 +297,8 @@ only_one P l h (suc k) k_in = absurd (omega arith)
 pub Meets-more : (s : State) (old w new : Work) (xs : List Literal) (i : ℕ) (l : Literal) → i < length xs →
     l ≡ lit_at xs i → Meets s old w (take i xs) → Meets s w new (l ∷ []) → Meets s old new (take (i + 1) xs)
 Meets-more s old w new xs i l within is a b =
-    let In : ℕ → Literal → Type 0 = λ n x. place_of s.trail x.variable < n in
-    let Marked : Literal → Type 0 = λ x. is_seen new (place_of s.trail x.variable) ≡ true in
+    let In : ℕ → Literal → Type 0 = λ n x. trail_index s.trail x.variable < n in
+    let Marked : Literal → Type 0 = λ x. is_seen new (trail_index s.trail x.variable) ≡ true in
     let S : Literal → Type 0 = IsAbsorbed s (is_seen old) in
     let absorbed_front : AreAbsorbed s (is_seen old) (take (i + 1) xs) →
     AreAbsorbed s (is_seen old) (take i xs) =
@@ -346,7 +346,7 @@ Meets-more s old w new xs i l within is a b =
 pub MayMeet-one : (s : State) (old w : Work) (xs : List Literal) (i : ℕ) (l : Literal) → i < length xs →
     l ≡ lit_at xs i → Meets s old w (take i xs) → MayMeet s old xs → MayMeet s w (l ∷ [])
 MayMeet-one s old w xs i l within is a may =
-    let In : Literal → Type 0 = λ x. place_of s.trail x.variable < may.0 in
+    let In : Literal → Type 0 = λ x. trail_index s.trail x.variable < may.0 in
     let front : AreBelow s may.0 (take i xs) = λ k k_in.
     let k_less : k < i = omega (arith, length-take-le i xs (omega arith)) in
     subst In (sym (get_or-take i xs k no_literal k_less)) (may.2 k (omega arith)) in
@@ -364,12 +364,12 @@ pending_room s w xs may = omega (
 
 -- a literal that may be met is on the trail
 pub met_within : (s : State) (w : Work) (l : Literal) → MayMeet s w (l ∷ []) →
-    place_of s.trail l.variable < length s.trail
+    trail_index s.trail l.variable < length s.trail
 met_within s w l may = omega (arith, may.2 0 (omega arith), may.1.within)
 
 pub met_place : (s : State) (w : Work) (l : Literal) (v : ℕ) → v ≡ l.variable → MayMeet s w (l ∷ []) →
-    place_of s.trail v < length s.trail
-met_place s w l v is may = subst (λ (x : ℕ). place_of s.trail x < length s.trail) (sym is)
+    trail_index s.trail v < length s.trail
+met_place s w l v is may = subst (λ (x : ℕ). trail_index s.trail x < length s.trail) (sym is)
     (met_within s w l may)
 
 -- a resolution of nothing

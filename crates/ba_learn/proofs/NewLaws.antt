@@ -13,8 +13,7 @@ use Rattle.ba_watch.proofs.Facts.{is_false-all}
 use Rattle.ba_learn.specs.Live.{IsSame, AreLive, IsNew, by_number, HaveDistinctNumbers, IsPartOf}
 use Rattle.ba_lits.proofs.Members.{same_from_index, literal_found}
 
--- a clause all of whose literals are false or one that has no value, and in which this one stands once at most, is
--- false or unit
+-- a clause is false or unit if one literal without a value occurs at most once in it and all others are false
 one_free : (value : Literal → Option Bool) (t : Literal) (c : List Literal) → value t ≡ None → AreApart c →
     ((k : ℕ) → k < length c → (lit_at c k ≡ t) ⊎ (value (lit_at c k) ≡ Some false)) →
     (is_false value c ≡ true) ⊎ (is_unit value c ≡ true)

@@ -1,4 +1,4 @@
--- The literals of reasons, and where they stand on the trail.
+-- The literals of reasons, and where they are on the trail.
 
 use Rattle.std.proofs.Common.{◌≡◌, ℕ, suc, zero, ◌+◌, ◌<◌, ◌≤◌, Bool, true, false, Option, None, Some, IsSome, is_some, List, [], ◌∷◌, ◌++◌, length, get_or, take, drop, map, eqb, cond, refl, sym, ap, ◌∙◌, arith, ⊎_elim}
 use Rattle.std.proofs.lemmas.List.{length-take-le, take-append-drop}
@@ -7,9 +7,9 @@ use Rattle.std.proofs.lemmas.Bool.Decides.{nat_tests}
 use Rattle.ba_lits.specs.Literals.{Literal, index_of, lit_at}
 use Rattle.ba_arena.specs.Clauses.{Clauses, Stored, IsLive, clause_at, lits_at, number_at, number_of as stored_number}
 use Rattle.ba_watch.specs.Threads.{Clause, plain, plain_at}
-use Rattle.ba_watch.specs.Trails.{value_of, place_of}
+use Rattle.ba_watch.specs.Trails.{value_of, trail_index}
 use Rattle.ba_watch.specs.Propagation.{State, plain_lits, clause_in, lits_in, KeepsFacts}
-use Rattle.ba_watch.proofs.Values.{place_of-some, place_of-append}
+use Rattle.ba_watch.proofs.Values.{trail_index-some, trail_index-append}
 use Rattle.ba_lits.proofs.Members.{same_from_index}
 use Rattle.ba_lits.specs.Hints.{has_literal}
 use Rattle.ba_watch.proofs.Visits.{some-plain}
@@ -27,16 +27,16 @@ pub lits_same : (a : Clauses) (cs : List (Option Clause)) (r : ℕ) → map plai
 lits_same a cs r e = sym (lits_in-map a r) ∙ ap (λ (x : List (Option Clause)). lits_in x r) e
 
 -- the place of a literal of the trail
-pub place_of-at : (xs : List Literal) (p : ℕ) → p < length xs → value_of (take p xs) (lit_at xs p) ≡ None →
-    place_of xs (lit_at xs p).variable ≡ p
-place_of-at [] p within none = absurd (omega arith)
-place_of-at (x ∷ xs) zero within none = first x.variable
+pub trail_index-at : (xs : List Literal) (p : ℕ) → p < length xs → value_of (take p xs) (lit_at xs p) ≡ None →
+    trail_index xs (lit_at xs p).variable ≡ p
+trail_index-at [] p within none = absurd (omega arith)
+trail_index-at (x ∷ xs) zero within none = first x.variable
   where
-    first : (v : ℕ) → cond (eqb v v) 0 (suc (place_of xs v)) ≡ 0
+    first : (v : ℕ) → cond (eqb v v) 0 (suc (trail_index xs v)) ≡ 0
     first v = grind (arith, nat_tests)
-place_of-at (x ∷ xs) (suc p) within none = step (eqb x.variable (lit_at xs p).variable) _
-    (value_of (take p xs) (lit_at xs p)) (place_of xs (lit_at xs p).variable)
-    (place_of-at xs p (omega arith)) none
+trail_index-at (x ∷ xs) (suc p) within none = step (eqb x.variable (lit_at xs p).variable) _
+    (value_of (take p xs) (lit_at xs p)) (trail_index xs (lit_at xs p).variable)
+    (trail_index-at xs p (omega arith)) none
   where
     step : (c s : Bool) (v : Option Bool) (q : ℕ) → (v ≡ None → q ≡ p) → cond c (Some s) v ≡ None →
         cond c 0 (suc q) ≡ suc p
@@ -44,14 +44,15 @@ place_of-at (x ∷ xs) (suc p) within none = step (eqb x.variable (lit_at xs p).
     step false s v q rest e = ap suc (rest e)
 
 -- a literal that is false at the front of the trail has its place there
-pub place_of-front_some : (xs : List Literal) (p : ℕ) (l : Literal) (b : Bool) → p ≤ length xs →
-    value_of (take p xs) l ≡ Some b → place_of xs l.variable < p
-place_of-front_some xs p l b le has =
-    let within : place_of (take p xs) l.variable < length (take p xs) = place_of-some (take p xs) l b has in
-    let same : place_of (take p xs ++ drop p xs) l.variable ≡ place_of (take p xs) l.variable =
-    place_of-append (take p xs) (drop p xs) l.variable within in
-    let whole : place_of xs l.variable ≡ place_of (take p xs) l.variable =
-    ap (λ (ys : List Literal). place_of ys l.variable) (sym (take-append-drop p xs)) ∙ same in
+pub trail_index-front_some : (xs : List Literal) (p : ℕ) (l : Literal) (b : Bool) → p ≤ length xs →
+    value_of (take p xs) l ≡ Some b → trail_index xs l.variable < p
+trail_index-front_some xs p l b le has =
+    let within : trail_index (take p xs) l.variable < length (take p xs) =
+    trail_index-some (take p xs) l b has in
+    let same : trail_index (take p xs ++ drop p xs) l.variable ≡ trail_index (take p xs) l.variable =
+    trail_index-append (take p xs) (drop p xs) l.variable within in
+    let whole : trail_index xs l.variable ≡ trail_index (take p xs) l.variable =
+    ap (λ (ys : List Literal). trail_index ys l.variable) (sym (take-append-drop p xs)) ∙ same in
     omega (arith, length-take-le p xs le, whole, within)
 
 -- the literals of a reason have places up to its own
@@ -65,11 +66,12 @@ reason_below s p r facts within is k k_in =
     let l_is : l ≡ lit_at s.trail p = same_from_index l (lit_at s.trail p) same in
     omega (
       arith,
-      ap (λ (x : Literal). place_of s.trail x.variable) l_is,
-      place_of-at s.trail p within
+      ap (λ (x : Literal). trail_index s.trail x.variable) l_is,
+      trail_index-at s.trail p within
           (facts.trail.fresh p within),
     ))
-    (λ other. omega (arith, place_of-front_some s.trail p l false (omega arith) (reason.others k k_in other)))
+    (λ other. omega
+    (arith, trail_index-front_some s.trail p l false (omega arith) (reason.others k k_in other)))
     (cases_eq (index_of l) (index_of (lit_at s.trail p)))
 
 -- a reason is live

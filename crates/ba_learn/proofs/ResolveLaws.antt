@@ -14,7 +14,7 @@ use Rattle.ba_watch.specs.Chains.{occurrences}
 use Rattle.ba_watch.specs.Trails.{decided, level_at}
 use Rattle.ba_watch.proofs.Levels.{decided-take-le}
 use Rattle.ba_watch.specs.Propagation.{State, lits_in, KeepsFacts}
-use Rattle.ba_learn.specs.Resolving.{Work, count_below, is_seen, is_above, IsWork, AreBelow, AreSeen, MayMeet, Meets, with_resolved, MayResolve, reason_lits, reason_of_place, AreCovered, Resolves, KeepsWork, IsStart, IsAbsorbed, AreAbsorbed, IsInert, IsRedundant, IsMinimised, place_in}
+use Rattle.ba_learn.specs.Resolving.{Work, count_below, is_seen, is_above, IsWork, AreBelow, AreSeen, MayMeet, Meets, with_resolved, MayResolve, reason_lits, reason_of_index, AreCovered, Resolves, KeepsWork, IsStart, IsAbsorbed, AreAbsorbed, IsInert, IsRedundant, IsMinimised, trail_index_in}
 use Rattle.ba_learn.proofs.WorkLaws.{occurrences-push, occurrences-append, pushed_cases, one_if-le, count_below-le, count_below-bound}
 use Rattle.ba_learn.proofs.ReasonLaws.{reason_below}
 use Rattle.ba_learn.proofs.FollowLaws.{occurrences-permutation}
@@ -119,10 +119,10 @@ Resolves-trans s u v w a b = record {
 -- the reason of a place with its literals seen
 covered_push : (s : State) (old new : ℕ → Bool) (places : List ℕ) (place : ℕ) →
     ((p : ℕ) → old p ≡ true → new p ≡ true) → AreCovered s old places →
-    AreSeen s new (reason_of_place s place) → AreCovered s new (places ++ place ∷ [])
+    AreSeen s new (reason_of_index s place) → AreCovered s new (places ++ place ∷ [])
 covered_push s old new places place grows covered here p some k k_in = ⊎_elim
     (λ was. grows _ (covered p was k k_in))
-    (λ same. (subst (λ (x : ℕ). AreSeen s new (reason_of_place s x)) (sym same) here) k k_in)
+    (λ same. (subst (λ (x : ℕ). AreSeen s new (reason_of_index s x)) (sym same) here) k k_in)
     (pushed_cases p places place some)
 
 -- a pending place is resolved
@@ -195,7 +195,7 @@ module _ (s : State) (old mid : Work) (place reason : ℕ) (facts : KeepsFacts s
       parted k r r' v floor q true le here more h = grind (arith, nat_tests)
       parted k r r' v floor q false le here more h = grind (arith, nat_tests)
 
--- where others are pending, the latest one was not decided
+-- if others are pending, the latest one was not decided
 pub pending_reason : (s : State) (w : Work) (place : ℕ) → IsWork s (place + 1) w → IsStart s w.floor →
     w.floor ≤ place → place < length s.trail → 2 ≤ w.pending → IsSome (get_or s.reasons place None)
 pending_reason s w place i start above within others = ⊎_elim
@@ -211,9 +211,9 @@ pending_reason s w place i start above within others = ⊎_elim
     (cases_eq place w.floor)
 
 -- the literals of the reason of a place became false before it
-reason_of_place-below : (s : State) → KeepsFacts s → (place n : ℕ) → place < n → place < length s.trail →
-    AreBelow s n (reason_of_place s place)
-reason_of_place-below s facts place n lt within = step (get_or s.reasons place None) refl
+reason_of_index-below : (s : State) → KeepsFacts s → (place n : ℕ) → place < n → place < length s.trail →
+    AreBelow s n (reason_of_index s place)
+reason_of_index-below s facts place n lt within = step (get_or s.reasons place None) refl
   where
     step : (o : Option ℕ) → get_or s.reasons place None ≡ o → AreBelow s n (reason_lits s o)
     step None e = λ k k_in. absurd (omega arith)
@@ -231,12 +231,12 @@ may_meet_reason s w w' place reason facts is within may e = (
 
 pub met_reason : (s : State) (w w' new : Work) (place reason : ℕ) →
     get_or s.reasons place None ≡ Some reason → w' ≡ with_resolved w place →
-    Meets s w' new (lits_in s.clauses reason) → Meets s (with_resolved w place) new (reason_of_place s place)
+    Meets s w' new (lits_in s.clauses reason) → Meets s (with_resolved w place) new (reason_of_index s place)
 met_reason s w w' new place reason is e met =
     subst (λ (o : Option ℕ). Meets s (with_resolved w place) new (reason_lits s o)) (sym is)
     (subst (λ (x : Work). Meets s x new (lits_in s.clauses reason)) e met)
 
--- where only places of level 0 are seen, no more is absorbed, or redundant
+-- if only places of level 0 are seen, no more is absorbed, or redundant
 pub inert_absorbed : (s : State) (old new : Work) (lits : List Literal) → IsInert s old new →
     AreAbsorbed s (is_seen new) lits → AreAbsorbed s (is_seen old) lits
 inert_absorbed s old new lits inert all =
@@ -245,19 +245,20 @@ inert_absorbed s old new lits inert all =
 
 pub inert_redundant : (s : State) (old new : Work) (p : ℕ) → IsInert s old new → IsRedundant s new p →
     IsRedundant s old p
-inert_redundant s old new p inert h = (h.0, inert_absorbed s old new (reason_of_place s p) inert h.1)
+inert_redundant s old new p inert h = (h.0, inert_absorbed s old new (reason_of_index s p) inert h.1)
 
 -- the reason of a place of level 0 is settled
 zero_absorbed : (s : State) (seen : ℕ → Bool) (p : ℕ) → KeepsFacts s → p < length s.trail →
-    level_at s.reasons p ≡ 0 → AreAbsorbed s seen (reason_of_place s p)
+    level_at s.reasons p ≡ 0 → AreAbsorbed s seen (reason_of_index s p)
 zero_absorbed s seen p facts within z = step (get_or s.reasons p None) refl
   where
     one : (r : ℕ) → get_or s.reasons p None ≡ Some r → (k : ℕ) → k < length (lits_in s.clauses r) →
         IsAbsorbed s seen (lit_at (lits_in s.clauses r) k)
     one r e k k_in =
-        let below : place_in s (lits_in s.clauses r) k < p + 1 = reason_below s p r facts within e k k_in in
-        let le : level_at s.reasons (place_in s (lits_in s.clauses r) k) ≤ level_at s.reasons p =
-        decided-take-le (place_in s (lits_in s.clauses r) k + 1) (p + 1) s.reasons
+        let below : trail_index_in s (lits_in s.clauses r) k < p + 1 =
+        reason_below s p r facts within e k k_in in
+        let le : level_at s.reasons (trail_index_in s (lits_in s.clauses r) k) ≤ level_at s.reasons p =
+        decided-take-le (trail_index_in s (lits_in s.clauses r) k + 1) (p + 1) s.reasons
         (omega (arith, below)) in
         (omega (arith, below), inr (omega (arith, z, le)))
 
@@ -326,7 +327,7 @@ module _ (s : State) (old : Work) (rest : List ℕ) (place : ℕ) (is : old.wait
   pub popped_may : (high : ℕ) → IsWork s high old → MayResolve s popped place
   popped_may high i = (high, popped_work high i, omega (arith, i.waiting_below place waits, i.floor))
 
-  module _ (new : Work) (met : Meets s (with_resolved popped place) new (reason_of_place s place)) where
+  module _ (new : Work) (met : Meets s (with_resolved popped place) new (reason_of_index s place)) where
     pub popped_resolves : Resolves s old new
     popped_resolves = record {
       grows = met.grows;
@@ -339,12 +340,12 @@ module _ (s : State) (old : Work) (rest : List ℕ) (place : ℕ) (is : old.wait
     pub popped_keeps : KeepsFacts s → KeepsWork s old new
     popped_keeps facts high i =
         met.work high (popped_work high i)
-        (reason_of_place-below s facts place high (omega (arith, i.waiting_below place waits, i.floor))
+        (reason_of_index-below s facts place high (omega (arith, i.waiting_below place waits, i.floor))
         (popped_within high i))
 
     pub popped_pending : KeepsFacts s → (high : ℕ) → IsWork s high old → new.pending ≡ old.pending
     popped_pending facts high i =
-        met.still (reason_of_place-below s facts place old.floor (i.waiting_below place waits)
+        met.still (reason_of_index-below s facts place old.floor (i.waiting_below place waits)
         (popped_within high i))
 
     pub popped_short : KeepsFacts s → (high : ℕ) → IsWork s high old → old.deep ≡ false →
@@ -365,7 +366,7 @@ module _ (s : State) (old : Work) (rest : List ℕ) (place : ℕ) (is : old.wait
         let within : place < n = popped_within high i in
         omega (
           arith,
-          met.spends n (reason_of_place-below s facts place n within within),
+          met.spends n (reason_of_index-below s facts place n within within),
           count_below-le
               (is_seen old) (is_seen new) met.grows n,
           count_below-bound
@@ -435,7 +436,7 @@ module _ (s : State) (old : Work) (rest : List ℕ) (place : ℕ) (is : IsPermut
   pub dropped_may : (high : ℕ) → IsWork s high old → MayResolve s dropped place
   dropped_may high i = (high, dropped_work high i, omega (arith, i.kept_below place was_kept, i.floor))
 
-  module _ (new : Work) (met : Meets s (with_resolved dropped place) new (reason_of_place s place)) where
+  module _ (new : Work) (met : Meets s (with_resolved dropped place) new (reason_of_index s place)) where
     pub dropped_resolves : Resolves s old new
     dropped_resolves = record {
       grows = met.grows;
@@ -448,15 +449,15 @@ module _ (s : State) (old : Work) (rest : List ℕ) (place : ℕ) (is : IsPermut
     pub dropped_keeps : KeepsFacts s → KeepsWork s old new
     dropped_keeps facts high i =
         met.work high (dropped_work high i)
-        (reason_of_place-below s facts place high (omega (arith, i.kept_below place was_kept, i.floor))
+        (reason_of_index-below s facts place high (omega (arith, i.kept_below place was_kept, i.floor))
         (dropped_within high i))
 
     pub dropped_pending : KeepsFacts s → (high : ℕ) → IsWork s high old → new.pending ≡ old.pending
     dropped_pending facts high i =
-        met.still (reason_of_place-below s facts place old.floor (i.kept_below place was_kept)
+        met.still (reason_of_index-below s facts place old.floor (i.kept_below place was_kept)
         (dropped_within high i))
 
-    pub dropped_inert : old.deep ≡ false → AreAbsorbed s (is_seen old) (reason_of_place s place) →
+    pub dropped_inert : old.deep ≡ false → AreAbsorbed s (is_seen old) (reason_of_index s place) →
         IsInert s (with_resolved dropped place) new
     dropped_inert shallow settled = met.inert shallow settled
 

@@ -12,15 +12,15 @@ use Rattle.ba_lits.specs.Hints.{has_literal}
 use Rattle.ba_lits.proofs.Members.{same_literal, has_literal-at, has_literal-permutation}
 use Rattle.ba_lits.specs.Satisfaction.{one_if}
 use Rattle.ba_watch.specs.Chains.{occurrences}
-use Rattle.ba_watch.specs.Trails.{place_of}
+use Rattle.ba_watch.specs.Trails.{trail_index}
 use Rattle.ba_watch.specs.Propagation.{State, KeepsFacts}
 use Rattle.ba_learn.specs.Resolving.{Work, is_seen, is_pending, IsWork, negated_at, SortsLiterals}
 use Rattle.ba_learn.proofs.Weights.{total-permutation}
-use Rattle.ba_learn.proofs.ReasonLaws.{place_of-at}
+use Rattle.ba_learn.proofs.ReasonLaws.{trail_index-at}
 use Rattle.ba_learn.proofs.FollowLaws.{resolved_apart, resolved_within, trail_apart}
 use Rattle.ba_learn.proofs.Finishes.{places_all}
 
--- how often a variable stands in a list of literals
+-- how often a variable is in a list of literals
 abbrev pub variable_times : ℕ → List Literal → ℕ
 variable_times v [] = 0
 variable_times v (x ∷ xs) = one_if (eqb x.variable v) + variable_times v xs
@@ -51,7 +51,7 @@ variable_twice (x ∷ xs) zero (suc k) lt within e =
 variable_twice (x ∷ xs) (suc j) (suc k) lt within e =
     omega (arith, variable_twice xs j k (omega arith) (omega arith) e)
 
--- a sorted list in which no variable stands twice
+-- a sorted list in which no variable occurs twice
 pub variables_ascend : (xs : List Literal) → IsNonDecreasingBy (λ (l : Literal). l.variable) xs →
     ((v : ℕ) → variable_times v xs ≤ 1) → (j k : ℕ) → j < k → k < length xs →
     (lit_at xs j).variable < (lit_at xs k).variable
@@ -158,16 +158,16 @@ module _ (s : State) (facts : KeepsFacts s) (high : ℕ) (w : Work) (work : IsWo
       (ap (λ (x : Literal). x.variable) (sym k.2) ∙ e))
       (literal_of l has)
 
-  place_at : (q : ℕ) → q < length s.trail → place_of s.trail (lit_at s.trail q).variable ≡ q
-  place_at q within = place_of-at s.trail q within (facts.trail.fresh q within)
+  place_at : (q : ℕ) → q < length s.trail → trail_index s.trail (lit_at s.trail q).variable ≡ q
+  place_at q within = trail_index-at s.trail q within (facts.trail.fresh q within)
 
   times-mapped : (v : ℕ) (ps : List ℕ) → ((q : ℕ) → 0 < occurrences q ps → q < length s.trail) →
-      variable_times v (map (negated_at s) ps) ≤ occurrences (place_of s.trail v) ps
+      variable_times v (map (negated_at s) ps) ≤ occurrences (trail_index s.trail v) ps
   times-mapped v [] within = omega arith
-  times-mapped v (p ∷ ps) within = step (lit_at s.trail p).variable (place_of s.trail v)
-      (variable_times v (map (negated_at s) ps)) (occurrences (place_of s.trail v) ps)
+  times-mapped v (p ∷ ps) within = step (lit_at s.trail p).variable (trail_index s.trail v)
+      (variable_times v (map (negated_at s) ps)) (occurrences (trail_index s.trail v) ps)
       (λ e. sym (place_at p (within p (self p (occurrences p ps))))
-      ∙ ap (place_of s.trail) e) (times-mapped v ps (λ q some. within q (omega (arith, some))))
+      ∙ ap (trail_index s.trail) e) (times-mapped v ps (λ q some. within q (omega (arith, some))))
     where
       self : (n k : ℕ) → 0 < cond (eqb n n) 1 0 + k
       self n k = grind (arith, nat_tests)
@@ -201,14 +201,15 @@ module _ (s : State) (facts : KeepsFacts s) (high : ℕ) (w : Work) (work : IsWo
           + (occurrences q w.waiting + one_if b))) (sym (ap (is_pending high w) (sym e) ∙ one.pending))
           ∙ work.parted q)
 
-      first : cond (eqb lead.variable v) 1 0 + occurrences (place_of s.trail v) w.kept ≤ 1
-      first = step lead.variable (place_of s.trail v) (occurrences (place_of s.trail v) w.kept)
-          (λ e. sym (place_at u u_within) ∙ (ap (place_of s.trail) (sym one.lead_is)
-          ∙ ap (place_of s.trail) e))
-          (none_kept (place_of s.trail v))
-          (at_most (occurrences (place_of s.trail v) w.kept) (occurrences (place_of s.trail v) w.resolved)
-          (occurrences (place_of s.trail v) w.waiting) (is_pending high w (place_of s.trail v))
-          (is_seen w (place_of s.trail v)) (work.parted (place_of s.trail v)))
+      first : cond (eqb lead.variable v) 1 0 + occurrences (trail_index s.trail v) w.kept ≤ 1
+      first = step lead.variable (trail_index s.trail v) (occurrences (trail_index s.trail v) w.kept)
+          (λ e. sym (place_at u u_within) ∙ (ap (trail_index s.trail) (sym one.lead_is)
+          ∙ ap (trail_index s.trail) e))
+          (none_kept (trail_index s.trail v))
+          (at_most (occurrences (trail_index s.trail v) w.kept)
+          (occurrences (trail_index s.trail v) w.resolved)
+          (occurrences (trail_index s.trail v) w.waiting) (is_pending high w (trail_index s.trail v))
+          (is_seen w (trail_index s.trail v)) (work.parted (trail_index s.trail v)))
 
   -- the clause is formed
   pub is_clause : IsClause s.variables lits

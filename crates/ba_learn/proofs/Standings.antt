@@ -1,4 +1,4 @@
--- How a clause stands where some literals are false, told by its literals in any order.
+-- How a clause stands if some literals are false, told by its literals in any order.
 
 use Rattle.std.proofs.Common.{◌≡◌, ◌≢◌, ℕ, suc, ◌+◌, ◌<◌, Bool, true, false, ◌||◌, None, Some, List, [], ◌∷◌, length, eqb, cond, refl, sym, ap, subst, ◌∙◌, arith, ◌⊎◌, ⊎_elim}
 use Rattle.std.proofs.lemmas.Bool.{cases_eq}
@@ -13,7 +13,7 @@ use Rattle.ba_lits.specs.Satisfaction.{one_if}
 use Rattle.ba_watch.specs.Threads.{index_at, AreApart}
 use Rattle.ba_learn.proofs.Weights.{total-permutation}
 
--- how often a literal stands in a list
+-- how often a literal is in a list
 abbrev pub times : Literal → List Literal → ℕ
 times t [] = 0
 times t (x ∷ xs) = one_if (eqb (index_of x) (index_of t)) + times t xs
@@ -23,7 +23,7 @@ pub times-permutation : (t : Literal) (xs ys : List Literal) → IsPermutation x
 times-permutation t =
     total-permutation (times t) (λ (x : Literal). one_if (eqb (index_of x) (index_of t))) refl (λ x xs. refl)
 
--- a clause in which no literal stands twice has each of its literals once
+-- a clause in which no literal occurs twice has each of its literals once
 pub times-none : (t : Literal) (xs : List Literal) →
     ((k : ℕ) → k < length xs → index_at xs k ≢ index_of t) → times t xs ≡ 0
 times-none t [] none = refl

@@ -16,7 +16,7 @@ total-permutation total part none more xs ys same =
     is_sum_by total part none more ys
     ∙ (sum_by-IsPermutation part xs ys same ∙ sym (is_sum_by total part none more xs))
 
--- a clause is false where its weight is 0, and unit where it is 1
+-- a clause is false if its weight is 0, and unit if it is 1
 abbrev weight_of : Option Bool → ℕ
 weight_of None = 1
 weight_of (Some true) = 2

@@ -6,34 +6,34 @@ use Rattle.std.proofs.lemmas.Bool.Decides.{nat_tests}
 use Rattle.ba_lits.specs.Literals.{Literal}
 use Rattle.ba_lits.specs.Satisfaction.{one_if}
 use Rattle.ba_watch.specs.Chains.{occurrences}
-use Rattle.ba_watch.specs.Trails.{place_of, place_if, level_at, level_of}
+use Rattle.ba_watch.specs.Trails.{trail_index, trail_index_if, level_at, level_of}
 use Rattle.ba_watch.proofs.Levels.{decided-take_none}
 use Rattle.ba_learn.specs.Resolving.{count_below}
 
 -- a place that has a value
-pub some_place : (T : List Literal) (v : ℕ) → place_of T v < length T → IsSome (place_if T v)
-some_place T v within = step (place_of T v) (length T) within
+pub some_place : (T : List Literal) (v : ℕ) → trail_index T v < length T → IsSome (trail_index_if T v)
+some_place T v within = step (trail_index T v) (length T) within
   where
     step : (p n : ℕ) → p < n → IsSome (cond (ltb p n) (Some p) None)
     step p n lt = grind (arith, nat_tests)
 
-pub place-is : (T : List Literal) (v p : ℕ) → place_of T v < length T → place_if T v ≡ Some p →
-    p ≡ place_of T v
-place-is T v p within e = step (place_of T v) (length T) within e
+pub place-is : (T : List Literal) (v p : ℕ) → trail_index T v < length T → trail_index_if T v ≡ Some p →
+    p ≡ trail_index T v
+place-is T v p within e = step (trail_index T v) (length T) within e
   where
     step : (q n : ℕ) → q < n → cond (ltb q n) (Some q) None ≡ Some p → p ≡ q
     step q n lt e = grind (arith, nat_tests)
 
-pub some_level : (T : List Literal) (R : List (Option ℕ)) (v : ℕ) → place_of T v < length T →
+pub some_level : (T : List Literal) (R : List (Option ℕ)) (v : ℕ) → trail_index T v < length T →
     IsSome (level_of T R v)
-some_level T R v within = step (place_of T v) (length T) (level_at R (place_of T v)) within
+some_level T R v within = step (trail_index T v) (length T) (level_at R (trail_index T v)) within
   where
     step : (p n l : ℕ) → p < n → IsSome (cond (ltb p n) (Some l) None)
     step p n l lt = grind (arith, nat_tests)
 
-pub level-is : (T : List Literal) (R : List (Option ℕ)) (v l : ℕ) → place_of T v < length T →
-    level_of T R v ≡ Some l → l ≡ level_at R (place_of T v)
-level-is T R v l within e = step (place_of T v) (length T) (level_at R (place_of T v)) within e
+pub level-is : (T : List Literal) (R : List (Option ℕ)) (v l : ℕ) → trail_index T v < length T →
+    level_of T R v ≡ Some l → l ≡ level_at R (trail_index T v)
+level-is T R v l within e = step (trail_index T v) (length T) (level_at R (trail_index T v)) within e
   where
     step : (q n m : ℕ) → q < n → cond (ltb q n) (Some m) None ≡ Some l → l ≡ m
     step q n m lt e = grind (arith, nat_tests)
@@ -47,7 +47,7 @@ zero_has_reason R p within e = step (get_or R p None) refl
     step None is = absurd (omega (arith, e, decided-take_none p R within is))
     step (Some r) is = refl
 
--- how often a place stands in a list
+-- how often a place is in a list
 pub occurrences-append : (p : ℕ) (xs ys : List ℕ) →
     occurrences p (xs ++ ys) ≡ occurrences p xs + occurrences p ys
 occurrences-append p [] ys = omega arith

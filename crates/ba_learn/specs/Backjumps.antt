@@ -1,4 +1,4 @@
--- What a learnt clause is after going back to its level.
+-- A learnt clause after a backjump to its level.
 
 use Rattle.std.specs.Prelude.{◌≡◌, ◌≢◌, ℕ, ◌<◌, ltb, true, false, None, Some, List, length, take, if◌then◌else◌}
 use Rattle.ba_lits.specs.Literals.{Literal, lit_at}

@@ -1,19 +1,20 @@
--- How a learnt clause stands to the levels of the trail.
+-- A learnt clause and the levels of the trail.
 
 use Rattle.std.specs.Prelude.{◌≡◌, ◌≢◌, ℕ, ◌<◌, ◌≤◌, true, None, Some, ◌⊎◌, List, length, get_or}
 use Rattle.ba_lits.specs.Literals.{Literal, negate, lit_at}
 use Rattle.ba_lits.specs.Hints.{has_literal}
-use Rattle.ba_watch.specs.Trails.{value_of, place_of, level_at, decided, reason_of}
+use Rattle.ba_watch.specs.Trails.{value_of, trail_index, level_at, decided, reason_of}
 use Rattle.ba_watch.specs.Propagation.{State, lits_in, is_false}
 
--- the level at which the variable of a literal, or of a clause's literal, got its value
+-- the level at which the variable of a literal, or of a clause's literal, was assigned
 abbrev pub level_of_literal : State → Literal → ℕ
-level_of_literal s l = level_at s.reasons (place_of s.trail l.variable)
+level_of_literal s l = level_at s.reasons (trail_index s.trail l.variable)
 
+-- the level of the literal at index k
 abbrev pub level_in : State → List Literal → ℕ → ℕ
 level_in s lits k = level_of_literal s (lit_at lits k)
 
--- a level is 0, or that of one of so many literals, below the present one
+-- a level is 0, or that of one of the first `n` literals, below the present one
 abbrev pub IsReached : State → List Literal → ℕ → ℕ → Type 0
 IsReached s lits n level =
     (level ≡ 0) ⊎ ((k : ℕ) × (k < n) × (level_in s lits k < decided s.reasons) × (level_in s lits k ≡ level))
@@ -23,8 +24,8 @@ abbrev pub IsMet : State → List Literal → ℕ → ℕ → Type 0
 IsMet s lits present level =
     (level ≡ 0) ⊎ ((k : ℕ) × (k < length lits) × (k ≢ present) × (level_in s lits k ≡ level))
 
--- the clause is false, exactly one of its literals was assigned at the present level, and `back` is the greatest level
--- of the others, or 0 where there is no other
+-- The clause is false, and exactly one of its literals was assigned at the present level. `back` is the
+-- greatest level of the others, or 0 if there is no other.
 pub record IsBacked (s : State) (lits : List Literal) (back : ℕ) : Type 0 where
   pub false_ : is_false (value_of s.trail) lits ≡ true
   pub present : ℕ
@@ -44,8 +45,8 @@ abbrev pub IsCoreOf : State → Literal → List Literal → Type 0
 IsCoreOf s lit lits = (k : ℕ) → k < length lits →
     (lit_at lits k ≡ negate lit) ⊎ NegatesDecided s (lit_at lits k)
 
--- the literal at a place of the clause is implied by the others: it has a reason whose other literals stand in the
--- clause, or were assigned at level 0
+-- The literal at an index of the clause is implied by the others. It has a reason whose other literals are in
+-- the clause, or were assigned at level 0.
 pub record IsCovered (s : State) (lits : List Literal) (k : ℕ) : Type 0 where
   pub reason : ℕ
   pub is : reason_of s.trail s.reasons (lit_at lits k).variable ≡ Some reason

@@ -1,4 +1,4 @@
--- What a clause has to do with the live clauses of a watch.
+-- A clause and the live clauses of a watch.
 
 use Rattle.std.specs.Prelude.{◌≡◌, ℕ, ◌<◌, eqb, true, false, Option, None, Some, List, [], ◌∷◌, length, if◌then◌else◌}
 use Rattle.std.specs.List.Sorted.{IsPermutation}
@@ -13,7 +13,7 @@ abbrev pub IsSame : Option (List Literal) → List Literal → Type 0
 IsSame None lits = ⊥
 IsSame (Some given) lits = IsPermutation given lits
 
--- the live clauses of a watch, which has them by reference, are those of a function that has them by number
+-- the live clauses of a watch, which has them by reference, are those of a function from numbers to clauses
 pub record AreLive (clauses : List (Option Clause)) (live : ℕ → Option (List Literal)) : Type 0 where
   pub each : (reference : ℕ) (c : Clause) → clause_in clauses reference ≡ Some c →
       IsSame (live c.number) c.lits
@@ -25,16 +25,16 @@ abbrev pub Follows : List (Option Clause) → List Literal → List ℕ → Type
 Follows clauses lits hints = (live : ℕ → Option (List Literal)) → AreLive clauses live →
     FollowsByHints live lits hints
 
--- no clause is false or unit where the literals of a trail are true
+-- no clause is false or unit if the literals of a trail are true
 pub record IsQuiet (live : ℕ → Option (List Literal)) (trail : List Literal) : Type 0 where
   pub none_false : (number : ℕ) (c : List Literal) → live number ≡ Some c →
       is_false (value_of trail) c ≡ false
   pub none_unit : (number : ℕ) (c : List Literal) → live number ≡ Some c → is_unit (value_of trail) c ≡ false
 
--- A clause is new to propagation where, for one of its literals, some partial assignment gives that literal no value,
--- makes all its other literals false, and leaves no live clause false or unit. The partial assignment is given by the
--- literals that are true in it. So unit propagation from its other literals doesn't give the clause, and it contains
--- no live clause.
+-- A clause is new to propagation if some partial assignment shows it. It gives one literal of the clause no
+-- value, makes all the others false, and leaves no live clause false or unit. The list has the literals that
+-- are true in it. So unit propagation from the negations of the others doesn't give the clause, and the
+-- clause contains no live clause.
 pub record IsNew (live : ℕ → Option (List Literal)) (lits : List Literal) : Type 0 where
   pub free : Literal
   pub trail : List Literal
@@ -58,6 +58,6 @@ HaveDistinctNumbers clauses =
     (a b : ℕ) (c d : Clause) → clause_in clauses a ≡ Some c → clause_in clauses b ≡ Some d →
     c.number ≡ d.number → a ≡ b
 
--- each literal of a clause stands in another one
+-- each literal of a clause is in another one
 abbrev pub IsPartOf : List Literal → List Literal → Type 0
 IsPartOf c lits = (k : ℕ) → k < length c → has_literal (lit_at c k) lits ≡ true

@@ -1,4 +1,4 @@
--- A resolution on its way: which places of the trail it has seen, and what is to become of their literals.
+-- A resolution under way: the trail indices that it has seen, and what becomes of their literals.
 
 use Rattle.std.specs.Prelude.{◌≡◌, ℕ, ◌+◌, ◌<◌, ◌≤◌, leb, ltb, ◌^◌, Bool, true, false, ◌&&◌, Option, None, Some, IsSome, ◌⊎◌, List, [], ◌∷◌, ◌++◌, length, get_or}
 use Prim.Native.Nat.{suc, zero}
@@ -8,12 +8,12 @@ use Rattle.ba_lits.specs.Literals.{Literal, lit_at, negate}
 use Rattle.ba_lits.specs.Satisfaction.{one_if}
 use Rattle.ba_watch.specs.Chains.{occurrences}
 use Rattle.ba_watch.specs.Threads.{Clause}
-use Rattle.ba_watch.specs.Trails.{place_of, level_at}
+use Rattle.ba_watch.specs.Trails.{trail_index, level_at}
 use Rattle.ba_watch.specs.Propagation.{State, clause_in, lits_in}
 
--- What contracts see of a resolution. Literals are named by their places on the trail. Those from the floor on are
--- pending until the walk down the trail comes to them; of the others some are kept in the clause, and the rest are
--- resolved with their reasons, or wait for that.
+-- What a contract sees of a resolution. Literals are named by their trail indices. Those from the floor on
+-- are pending until the walk down the trail comes to them. Of the others some are kept in the clause; the
+-- rest are resolved with their reasons, or wait for that.
 pub record Work : Type 0 where
   pub seen : List Bool
   pub floor : ℕ
@@ -23,40 +23,40 @@ pub record Work : Type 0 where
   pub resolved : List ℕ
   pub waiting : List ℕ
 
--- the place is seen
+-- the index is seen
 abbrev pub is_seen : Work → ℕ → Bool
 is_seen w p = get_or w.seen p false
 
--- how many places below a number are in a set
+-- how many indices below a number are in a set
 abbrev pub count_below : (ℕ → Bool) → ℕ → ℕ
 count_below set zero = 0
 count_below set (suc n) = one_if (set n) + count_below set n
 
--- the seen places from the floor on
+-- the seen indices from the floor on
 abbrev pub is_above : Work → ℕ → Bool
 is_above w p = leb w.floor p && is_seen w p
 
--- those of them that the walk hasn't come to
+-- those of them to which the walk hasn't come
 abbrev pub is_pending : ℕ → Work → ℕ → Bool
 is_pending high w p = ltb p high && is_above w p
 
--- a literal may be kept where it was decided, or, unless the resolution is deep, above level 0
+-- a literal may be kept if it was decided, or, unless the resolution is deep, above level 0
 abbrev pub MayKeep : State → Bool → ℕ → Type 0
 MayKeep s true p = get_or s.reasons p None ≡ None
 MayKeep s false p = 1 ≤ level_at s.reasons p
 
--- otherwise it has a reason, and is of level 0 unless the resolution is deep
+-- otherwise it has a reason, and is at level 0 unless the resolution is deep
 pub record MustResolve (s : State) (deep : Bool) (p : ℕ) : Type 0 where
   pub reason : IsSome (get_or s.reasons p None)
   pub level : deep ≡ false → level_at s.reasons p ≡ 0
 
--- in how many parts of the work a place is
+-- in how many parts of the work an index is
 abbrev pub parts_of : ℕ → Work → ℕ → ℕ
 parts_of high w p =
     occurrences p w.kept + (occurrences p w.resolved
     + (occurrences p w.waiting + one_if (is_pending high w p)))
 
--- the walk down the trail has come to a place: each seen place is in exactly one part of the work
+-- the walk down the trail has come to an index; each seen index is in exactly one part of the work
 pub record IsWork (s : State) (high : ℕ) (w : Work) : Type 0 where
   pub short : length s.trail < 2 ^ 62
   pub within : high ≤ length s.trail
@@ -71,7 +71,7 @@ pub record IsWork (s : State) (high : ℕ) (w : Work) : Type 0 where
   pub waiting : (p : ℕ) → 0 < occurrences p w.waiting → MustResolve s w.deep p
   pub waiting_below : (p : ℕ) → 0 < occurrences p w.waiting → p < w.floor
 
--- a place is put into its part of the work
+-- an index is put into its part of the work
 pub data Parts (s : State) (old new : Work) (place : ℕ) : Type 0 where
   ToPending : old.floor ≤ place → new ≡ record old { pending = old.pending + 1 } → Parts s old new place
   ToKept : place < old.floor → MayKeep s old.deep place →
@@ -79,17 +79,17 @@ pub data Parts (s : State) (old new : Work) (place : ℕ) : Type 0 where
   ToWaiting : place < old.floor → MustResolve s old.deep place →
       new ≡ record old { waiting = old.waiting ++ place ∷ [] } → Parts s old new place
 
--- the place of a clause's literal
-abbrev pub place_in : State → List Literal → ℕ → ℕ
-place_in s lits k = place_of s.trail (lit_at lits k).variable
+-- the trail index of a clause's literal
+abbrev pub trail_index_in : State → List Literal → ℕ → ℕ
+trail_index_in s lits k = trail_index s.trail (lit_at lits k).variable
 
--- the literals of a clause have places below one
+-- the literals of a clause have trail indices below one
 abbrev pub AreBelow : State → ℕ → List Literal → Type 0
-AreBelow s high lits = (k : ℕ) → k < length lits → place_in s lits k < high
+AreBelow s high lits = (k : ℕ) → k < length lits → trail_index_in s lits k < high
 
 -- the literals of a clause are seen
 abbrev pub AreSeen : State → (ℕ → Bool) → List Literal → Type 0
-AreSeen s seen lits = (k : ℕ) → k < length lits → seen (place_in s lits k) ≡ true
+AreSeen s seen lits = (k : ℕ) → k < length lits → seen (trail_index_in s lits k) ≡ true
 
 -- a resolution is under way and may meet the literals of a clause
 abbrev pub MayMeet : State → Work → List Literal → Type 0
@@ -104,14 +104,15 @@ pub record MayStart (s : State) (floor high : ℕ) (lits : List Literal) : Type 
 -- a literal has a value, and is seen or was assigned at level 0
 abbrev pub IsAbsorbed : State → (ℕ → Bool) → Literal → Type 0
 IsAbsorbed s seen l =
-    (place_of s.trail l.variable < length s.trail)
-    × ((seen (place_of s.trail l.variable) ≡ true) ⊎ (level_at s.reasons (place_of s.trail l.variable)
+    (trail_index s.trail l.variable < length s.trail)
+    × ((seen (trail_index s.trail l.variable) ≡ true) ⊎ (level_at s.reasons (trail_index s.trail l.variable)
     ≡ 0))
 
+-- each literal is absorbed
 abbrev pub AreAbsorbed : State → (ℕ → Bool) → List Literal → Type 0
 AreAbsorbed s seen lits = All (IsAbsorbed s seen) lits
 
--- only places of level 0 were seen, and what is kept stays
+-- only indices of level 0 were seen, and what is kept stays
 pub record IsInert (s : State) (old new : Work) : Type 0 where
   pub seen : (p : ℕ) → is_seen new p ≡ true → (is_seen old p ≡ true) ⊎ (level_at s.reasons p ≡ 0)
   pub kept : new.kept ≡ old.kept
@@ -131,27 +132,27 @@ pub record Meets (s : State) (old new : Work) (lits : List Literal) : Type 0 whe
   pub work : (high : ℕ) → IsWork s high old → AreBelow s high lits → IsWork s high new
   pub inert : old.deep ≡ false → AreAbsorbed s (is_seen old) lits → IsInert s old new
 
--- the literals of a reason; none where there is none
+-- the literals of a reason; none if there is none
 abbrev pub reason_lits : State → Option ℕ → List Literal
 reason_lits s None = []
 reason_lits s (Some clause) = lits_in s.clauses clause
 
--- a place is among those that are resolved
+-- an index is among those that are resolved
 abbrev pub with_resolved : Work → ℕ → Work
 with_resolved w place = record w { resolved = w.resolved ++ place ∷ [] }
 
--- a place in no part of the work may be resolved
+-- an index in no part of the work may be resolved
 abbrev pub MayResolve : State → Work → ℕ → Type 0
 MayResolve s w place = (high : ℕ) × IsWork s high (with_resolved w place) × (place < high)
 
--- the literals of the reason of a place
-abbrev pub reason_of_place : State → ℕ → List Literal
-reason_of_place s place = reason_lits s (get_or s.reasons place None)
+-- the literals of the reason of an index
+abbrev pub reason_of_index : State → ℕ → List Literal
+reason_of_index s place = reason_lits s (get_or s.reasons place None)
 
--- the literals of the reasons of places are seen
+-- the literals of the reasons of indices are seen
 abbrev pub AreCovered : State → (ℕ → Bool) → List ℕ → Type 0
 AreCovered s seen places =
-    (p : ℕ) → 0 < occurrences p places → AreSeen s seen (reason_of_place s p)
+    (p : ℕ) → 0 < occurrences p places → AreSeen s seen (reason_of_index s p)
 
 -- reasons were resolved with: what was seen stays so, and what is resolved has the literals of its reason seen
 pub record Resolves (s : State) (old new : Work) : Type 0 where
@@ -160,9 +161,9 @@ pub record Resolves (s : State) (old new : Work) : Type 0 where
   pub deep : new.deep ≡ old.deep
   pub covered : AreCovered s (is_seen old) old.resolved → AreCovered s (is_seen new) new.resolved
 
--- a place has a reason, each literal of which is absorbed
+-- an index has a reason, each literal of which is absorbed
 abbrev pub IsRedundant : State → Work → ℕ → Type 0
-IsRedundant s w p = IsSome (get_or s.reasons p None) × AreAbsorbed s (is_seen w) (reason_of_place s p)
+IsRedundant s w p = IsSome (get_or s.reasons p None) × AreAbsorbed s (is_seen w) (reason_of_index s p)
 
 -- nothing that is kept is redundant
 abbrev pub IsMinimised : State → Work → Type 0
@@ -172,28 +173,31 @@ IsMinimised s w = (p : ℕ) → 0 < occurrences p w.kept → IsRedundant s w p �
 abbrev pub KeepsWork : State → Work → Work → Type 0
 KeepsWork s old new = (high : ℕ) → IsWork s high old → IsWork s high new
 
--- the present level begins at a place
+-- the present level begins at an index of the trail
 pub record IsStart (s : State) (floor : ℕ) : Type 0 where
   pub within : floor < length s.trail
   pub decided_ : get_or s.reasons floor None ≡ None
   pub later : (p : ℕ) → floor < p → p < length s.trail → IsSome (get_or s.reasons p None)
 
+-- the number of a clause, 0 without one
 abbrev pub number_of : Option Clause → ℕ
 number_of None = 0
 number_of (Some c) = c.number
 
--- the number of a clause, and of the reason of a place
+-- the number of a clause, and of the reason of an index
 abbrev pub number_in : State → ℕ → ℕ
 number_in s clause = number_of (clause_in s.clauses clause)
 
+-- the number of a reason, 0 without one
 abbrev pub reason_number : State → Option ℕ → ℕ
 reason_number s None = 0
 reason_number s (Some clause) = number_in s clause
 
+-- the number of the reason of the literal at a trail index
 abbrev pub number_at : State → ℕ → ℕ
 number_at s p = reason_number s (get_or s.reasons p None)
 
--- the negation of the literal at a place of the trail
+-- the negation of the literal at a trail index
 abbrev pub negated_at : State → ℕ → Literal
 negated_at s p = negate (lit_at s.trail p)
 
@@ -202,6 +206,7 @@ pub record SortsNumbers (old new : List ℕ) : Type 0 where
   pub same : IsPermutation old new
   pub ascends : IsNonDecreasingBy (λ (x : ℕ). x) new
 
+-- the literals are the same, in ascending order of their variables
 pub record SortsLiterals (old new : List Literal) : Type 0 where
   pub same : IsPermutation old new
   pub ascends : IsNonDecreasingBy (λ (l : Literal). l.variable) new
@@ -210,7 +215,7 @@ pub record SortsLiterals (old new : List Literal) : Type 0 where
 abbrev pub IsMinimisedFrom : State → Work → ℕ → Type 0
 IsMinimisedFrom s w index = (k : ℕ) → index ≤ k → k < length w.kept → IsRedundant s w (get_or w.kept k 0) → ⊥
 
--- a number stands behind an index of a list
+-- a number is after an index of a list
 abbrev pub StandsBehind : List ℕ → ℕ → ℕ → Type 0
 StandsBehind xs index x = (j : ℕ) × (index < j) × (j < length xs) × (x ≡ get_or xs j 0)
 

@@ -1,8 +1,8 @@
-//! Resolving a false clause.
+//! Conflict analysis.
 
 ghost use Rattle.std.specs.Prelude.{◌≡◌, ℕ, ◌<◌, ◌≤◌, ◌⊎◌, [], Some, true, false, IfOk, IsSome, List, length, All};
 ghost use Rattle.ba_lits.specs.Literals.{IsClause};
-ghost use Rattle.ba_watch.specs.Trails.{value_of, place_of, decided, reason_of};
+ghost use Rattle.ba_watch.specs.Trails.{value_of, trail_index, decided, reason_of};
 ghost use Rattle.ba_watch.specs.Propagation.{clause_in, lits_in, is_false};
 ghost use Rattle.ba_learn.specs.Live.{Follows, IsNewTo};
 ghost use Rattle.ba_learn.specs.Levels.{level_in, level_of_literal, IsReached, IsBacked, IsShort, IsCoreOf};
@@ -15,13 +15,13 @@ use ba_lits::Lit;
 use ba_watch::Watch;
 use std::alloc::{AllocError, Global};
 
-/// The marks of what was seen, which an analysis needs, kept from one to the next so that an analysis costs what it resolves and not
-/// what there is.
+/// The marks of an analysis, kept from one to the next. So an analysis costs what it resolves, and not the
+/// size of the trail.
 #[derive(Drop)]
 pub struct Analyser {
     alloc: Global,
     resolution: Resolution,
-    /// How many places the last analysis resolved above level 0.
+    /// How many trail indices the last analysis resolved above level 0.
     above: usize,
 }
 
@@ -35,14 +35,15 @@ impl Analyser {
         }
     }
 
-    /// The clause to learn from a clause that is false above level 0: that of the first unique implication point of
-    /// the present level, without the literals that the reasons of others cover.
+    /// The clause to learn from a clause that is false above level 0. It is that of the first unique
+    /// implication point of the present level, without the literals that the reasons of others cover.
     ///
-    /// Exactly one of its literals was assigned at the present level, and `back` is the greatest level of the others,
-    /// or 0. It follows by its hints from the live clauses and is new to propagation for them. Each of the others
-    /// that has a reason has in it one more literal that isn't in the clause and was assigned above level 0.
+    /// Exactly one of its literals was assigned at the present level, and `back` is the greatest level of the
+    /// others, or 0. It follows by its hints from the live clauses and is new to propagation for them. Each
+    /// of the others with a reason has in it one more literal that isn't in the clause and was assigned above
+    /// level 0.
     ///
-    /// The one error is want of memory.
+    /// The only error is out of memory.
     pub fn analyse(&mut self, watch: &Watch, conflict: ClauseRef) -> Result<Learnt, AllocError>
         requires live { IsSome (clause_in watch.now.clauses conflict) }
         requires false_ { is_false (value_of watch.now.trail) (lits_in watch.now.clauses conflict)
@@ -73,18 +74,18 @@ impl Analyser {
         })
     }
 
-    /// The places on the trail of the literals above level 0 that the last call of `analyse` resolved, in ascending
-    /// order, for measures of how active a variable is.
+    /// The trail indices of the literals above level 0 that the last call of `analyse` resolved, in ascending
+    /// order. They serve measures of a variable's activity.
     pub fn resolved(&self) -> &[usize] {
         let resolved = self.resolution.resolved();
         let below = resolved.len().saturating_sub(self.above);
         resolved.split_at(below).1
     }
 
-    /// A clause that negates a false literal and decided literals alone: those because of which the literal is false.
-    /// Its `back` is 0.
+    /// A clause of the negation of a false literal and of decided literals: those because of which the
+    /// literal is false. Its `back` is 0.
     ///
-    /// The one error is want of memory.
+    /// The only error is out of memory.
     pub fn core_of(&mut self, watch: &Watch, lit: Lit) -> Result<Learnt, AllocError>
         requires within { lit.variable ≤ watch.now.variables }
         requires false_ { value_of watch.now.trail lit ≡ Some false }
@@ -97,7 +98,7 @@ impl Analyser {
     {
         watch.keeps_facts();
         let variable = lit.variable();
-        let place = watch.place(variable).unwrap();
+        let place = watch.trail_index(variable).unwrap();
         let reason = watch.reason(variable).unwrap();
         let resolution = &mut self.resolution;
         resolution.start(watch, reason, place, true)?;
@@ -112,9 +113,9 @@ impl Analyser {
         })
     }
 
-    /// Hints by which the empty clause follows, from a clause that is false at level 0.
+    /// Hints for the empty clause, from a clause that is false at level 0.
     ///
-    /// The one error is want of memory.
+    /// The only error is out of memory.
     pub fn refutation(&mut self, watch: &Watch, conflict: ClauseRef) -> Result<Vec<u64>, AllocError>
         requires live { IsSome (clause_in watch.now.clauses conflict) }
         requires false_ { is_false (value_of watch.now.trail) (lits_in watch.now.clauses conflict)
@@ -131,10 +132,10 @@ impl Analyser {
     }
 }
 
-/// The greater of a level and that of a literal, but for the present one.
+/// The greater of a level and that of a literal, which counts only below the present level.
 fn raised(watch: &Watch, lit: Lit, back: usize) -> usize
     requires within { lit.variable ≤ watch.now.variables }
-    requires assigned { place_of watch.now.trail lit.variable < length watch.now.trail }
+    requires assigned { trail_index watch.now.trail lit.variable < length watch.now.trail }
     ensures grows { back ≤ result }
     ensures below { level_of_literal watch.now lit < decided watch.now.reasons
         → level_of_literal watch.now lit ≤ result }
@@ -152,7 +153,7 @@ fn raised(watch: &Watch, lit: Lit, back: usize) -> usize
 /// The greatest level of a clause's literals below the present one, or 0.
 fn backjump_level(watch: &Watch, lits: &[Lit]) -> usize
     requires within { All (λ l. l.variable ≤ watch.now.variables) lits.now }
-    requires assigned { All (λ l. place_of watch.now.trail l.variable < length watch.now.trail)
+    requires assigned { All (λ l. trail_index watch.now.trail l.variable < length watch.now.trail)
         lits.now }
     ensures greatest { (k : ℕ) → k < length lits.now
         → level_in watch.now lits.now k < decided watch.now.reasons
@@ -166,9 +167,9 @@ fn backjump_level(watch: &Watch, lits: &[Lit]) -> usize
     back
 }
 
-/// [`Analyser::analyse`] with marks of its own.
+/// [`Analyser::analyse`] with new marks.
 ///
-/// The one error is want of memory.
+/// The only error is out of memory.
 pub fn analyse(alloc: Global, watch: &Watch, conflict: ClauseRef) -> Result<Learnt, AllocError>
     requires live { IsSome (clause_in watch.now.clauses conflict) }
     requires false_ { is_false (value_of watch.now.trail) (lits_in watch.now.clauses conflict)
@@ -183,9 +184,9 @@ pub fn analyse(alloc: Global, watch: &Watch, conflict: ClauseRef) -> Result<Lear
     Analyser::new(alloc).analyse(watch, conflict)
 }
 
-/// [`Analyser::core_of`] with marks of its own.
+/// [`Analyser::core_of`] with new marks.
 ///
-/// The one error is want of memory.
+/// The only error is out of memory.
 pub fn core_of(alloc: Global, watch: &Watch, lit: Lit) -> Result<Learnt, AllocError>
     requires within { lit.variable ≤ watch.now.variables }
     requires false_ { value_of watch.now.trail lit ≡ Some false }
@@ -198,9 +199,9 @@ pub fn core_of(alloc: Global, watch: &Watch, lit: Lit) -> Result<Learnt, AllocEr
     Analyser::new(alloc).core_of(watch, lit)
 }
 
-/// [`Analyser::refutation`] with marks of its own.
+/// [`Analyser::refutation`] with new marks.
 ///
-/// The one error is want of memory.
+/// The only error is out of memory.
 pub fn refutation(alloc: Global, watch: &Watch, conflict: ClauseRef) -> Result<Vec<u64>, AllocError>
     requires live { IsSome (clause_in watch.now.clauses conflict) }
     requires false_ { is_false (value_of watch.now.trail) (lits_in watch.now.clauses conflict)

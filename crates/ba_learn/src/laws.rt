@@ -9,15 +9,15 @@ ghost use Rattle.ba_learn.specs.Live.{AreLive, IsNew, IsPartOf, HaveDistinctNumb
 ghost use Rattle.ba_learn.specs.Levels.{IsBacked};
 ghost use Rattle.ba_learn.specs.Backjumps.{after_backtrack, IsUnitAt};
 
-/// A clause that is new contains no live clause, where no literal stands twice in that.
+/// Law: a new clause contains no live clause without repeated literals.
 pub fn new_law()
     ensures { (live : ℕ → Option (List Literal)) (lits : List Literal) → IsNew live lits
         → (number : ℕ) (c : List Literal) → live number ≡ Some c → AreApart c → IsPartOf c lits
         → ⊥ }
 {}
 
-/// After going back to the level of a learnt clause its literal of the level left has no value, and its others are
-/// false; the level is the one gone back to.
+/// Law: after a backjump to the level of a learnt clause, its literal of the level left has no value, and its
+/// others are false. The level is the one gone back to.
 pub fn unit_law()
     ensures unit { (s : State) (lits : List Literal) (back : ℕ) → KeepsFacts s
         → (b : IsBacked s lits back) → IsUnitAt (after_backtrack back s).trail lits b.present }
@@ -25,20 +25,20 @@ pub fn unit_law()
         → decided (after_backtrack back s).reasons ≡ back }
 {}
 
-/// A learnt clause whose level isn't 0 may be added after going back to that level.
+/// Law: a learnt clause whose level isn't 0 may be added after a backjump to that level.
 pub fn asserting_law()
     ensures { (s : State) (lits : List Literal) (back : ℕ) → KeepsFacts s → IsBacked s lits back
         → 1 ≤ back → IsAsserting (after_backtrack back s) lits }
 {}
 
-/// A clause that was added where all but one of its literals are false is a reason for that one.
+/// Law: a clause that was added when all but one of its literals are false is a reason for that one.
 pub fn reason_law()
     ensures { (old new : State) (clause number free : ℕ) (lits : List Literal)
         → AddsClause old new clause lits number → IsUnitAt old.trail lits free
         → IsReason (lits_in new.clauses clause) new.trail (lit_at lits free) }
 {}
 
-/// Where no two clauses have the same number, a function has them by number.
+/// Law: if no two clauses have the same number, a function has them by number.
 pub fn number_law()
     ensures { (clauses : List (Option Clause)) → HaveDistinctNumbers clauses
         → AreLive clauses (by_number clauses) }

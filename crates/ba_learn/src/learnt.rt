@@ -3,12 +3,13 @@
 use ba_items::Items;
 use ba_lits::Lit;
 
-/// A clause with the hints by which it follows, and the level to go back to.
+/// A learnt clause with its hints, and the level to go back to.
 #[derive(Debug, Drop)]
 pub struct Learnt {
     /// The literals, of strictly ascending variables.
     pub lits: Items<Lit>,
-    /// The numbers of clauses: with all literals of this one false, each is unit in turn, and the last is false.
+    /// The hints, by number: with all literals of the clause false, each clause named is unit in turn, and
+    /// the last is false.
     pub hints: Items<u64>,
     /// The level at which the clause is unit.
     pub back: usize,

@@ -1,9 +1,9 @@
-//! What is learnt from a clause that has become false.
+//! Conflict analysis to the first unique implication point.
 //!
-//! Resolving the false clause with the reasons of its literals, latest first, gives a clause that the clauses already
-//! held imply (J. Marques-Silva, K. Sakallah, GRASP: A New Search Algorithm for Satisfiability); stopping where one
-//! literal of the present level is left gives the clause of the first unique implication point (L. Zhang,
-//! C. Madigan, M. Moskewicz, S. Malik, Efficient Conflict Driven Learning in a Boolean Satisfiability Solver).
+//! A false clause is resolved with the reasons of its literals, latest first. That gives a clause that the
+//! live clauses imply (J. Marques-Silva, K. Sakallah, GRASP: A New Search Algorithm for Satisfiability). It
+//! stops when one literal of the present level is left, the first unique implication point. Source: L. Zhang,
+//! C. Madigan, M. Moskewicz, S. Malik, Efficient Conflict Driven Learning in a Boolean Satisfiability Solver.
 #![tactic(auto)]
 
 mod analyser;

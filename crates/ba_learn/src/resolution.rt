@@ -3,9 +3,9 @@
 ghost use Rattle.std.specs.Prelude.{◌≡◌, ℕ, ◌+◌, ◌^◌, ◌<◌, ◌≤◌, [], ◌∷◌, ◌++◌, None, true, false, IfOk, OnOk, IsSome, IsTrue, ◌↔◌, length, map, get_or, All};
 ghost use Rattle.std.specs.List.{swap_remove};
 ghost use Rattle.ba_lits.specs.Literals.{lit_at};
-ghost use Rattle.ba_watch.specs.Trails.{place_of, decided, level_at};
+ghost use Rattle.ba_watch.specs.Trails.{trail_index, decided, level_at};
 ghost use Rattle.ba_watch.specs.Propagation.{clause_in, lits_in};
-ghost use Rattle.ba_learn.specs.Resolving.{Work, IsWork, is_seen, is_above, count_below, MayKeep, AreBelow, AreSeen, MayMeet, MayStart, Parts, Meets, with_resolved, MayResolve, reason_of_place, MustResolve, IsAbsorbed, AreAbsorbed, IsRedundant, IsMinimised, MinimisesAt, StandsBehind, Resolves, KeepsWork, IsStart, number_in, number_at, negated_at, SortsNumbers, SortsLiterals};
+ghost use Rattle.ba_learn.specs.Resolving.{Work, IsWork, is_seen, is_above, count_below, MayKeep, AreBelow, AreSeen, MayMeet, MayStart, Parts, Meets, with_resolved, MayResolve, reason_of_index, MustResolve, IsAbsorbed, AreAbsorbed, IsRedundant, IsMinimised, MinimisesAt, StandsBehind, Resolves, KeepsWork, IsStart, number_in, number_at, negated_at, SortsNumbers, SortsLiterals};
 
 use ba_arena::ClauseRef;
 use ba_lits::{Lit, Marks};
@@ -13,10 +13,12 @@ use ba_watch::Watch;
 use std::alloc::{AllocError, Global};
 use std::marker::Model;
 
-/// A clause that is false, resolved with the reasons of its literals. Literals are named by their places on the trail.
+/// A false clause under resolution with the reasons of its literals. Literals are named by their trail
+/// indices.
 ///
-/// Those from the floor on are pending until a walk down the trail comes to them. Of the others those are kept that
-/// were decided, or, unless the resolution is deep, assigned above level 0. The rest waits to be resolved.
+/// Those from the floor on are pending until a walk down the trail comes to them. Of the others those are
+/// kept that were decided, or, unless the resolution is deep, assigned above level 0. The rest waits to be
+/// resolved.
 #[derive(Drop)]
 pub struct Resolution {
     seen: Marks,
@@ -82,11 +84,11 @@ impl Resolution {
     fn is_kept(&self, watch: &Watch, variable: u64) -> bool
         requires counted { 1 ≤ variable }
         requires within { variable ≤ watch.now.variables }
-        requires assigned { place_of watch.now.trail variable < length watch.now.trail }
+        requires assigned { trail_index watch.now.trail variable < length watch.now.trail }
         ensures kept { result ≡ true → MayKeep watch.now self.now.deep
-            (place_of watch.now.trail variable) }
+            (trail_index watch.now.trail variable) }
         ensures resolved { result ≡ false
-            → MustResolve watch.now self.now.deep (place_of watch.now.trail variable) }
+            → MustResolve watch.now self.now.deep (trail_index watch.now.trail variable) }
     {
         watch.keeps_facts();
         if self.deep {
@@ -96,12 +98,12 @@ impl Resolution {
         }
     }
 
-    /// Puts the place of a variable into its part of the work.
+    /// Puts the trail index of a variable into its part of the work.
     fn part(&mut self, watch: &Watch, variable: u64, place: usize) -> Result<(), AllocError>
         requires counted { 1 ≤ variable }
         requires within { variable ≤ watch.now.variables }
-        requires assigned { place_of watch.now.trail variable < length watch.now.trail }
-        requires place { place ≡ place_of watch.now.trail variable }
+        requires assigned { trail_index watch.now.trail variable < length watch.now.trail }
+        requires place { place ≡ trail_index watch.now.trail variable }
         requires room { self.old.pending < 2 ^ 62 }
         ensures { OnOk result (Parts watch.now self.old self.new place) }
     {
@@ -124,7 +126,7 @@ impl Resolution {
     {
         let variable = lit.variable();
         watch.keeps_facts();
-        let place = watch.place(variable).unwrap();
+        let place = watch.trail_index(variable).unwrap();
         if self.seen.contains(place) {
             return Ok(());
         }
@@ -173,7 +175,7 @@ impl Resolution {
         self.meet_all(watch, clause)
     }
 
-    /// The latest place below an end whose literal is pending.
+    /// The latest index below an end whose literal is pending.
     fn next_pending(&self, end: usize) -> usize
         requires { 1 ≤ count_below (is_above self.now) end }
         ensures below { result < end }
@@ -188,14 +190,14 @@ impl Resolution {
         place
     }
 
-    /// Puts a place behind those that were resolved.
+    /// Adds an index to those that were resolved.
     fn push_resolved(&mut self, place: usize) -> Result<(), AllocError>
         ensures { OnOk result (self.new ≡ with_resolved self.old place) }
     {
         Ok(self.resolved.push(place)?)
     }
 
-    /// Resolves the latest pending literal, where there are others.
+    /// Resolves the latest pending literal, if there are others.
     fn resolve_pending(&mut self, watch: &Watch, place: usize) -> Result<(), AllocError>
         requires work { IsWork watch.now (place + 1) self.old }
         requires start { IsStart watch.now self.old.floor }
@@ -214,8 +216,8 @@ impl Resolution {
         self.push_resolved(place)
     }
 
-    /// Walks down the trail from its end, resolving pending literals until one is left: the first unique implication
-    /// point, whose place it gives.
+    /// Walks down the trail from its end, and resolves pending literals until one is left. That is the first
+    /// unique implication point, whose index it gives.
     pub fn walk(&mut self, watch: &Watch) -> Result<usize, AllocError>
         requires work { IsWork watch.now (length watch.now.trail) self.old }
         requires start { IsStart watch.now self.old.floor }
@@ -235,13 +237,13 @@ impl Resolution {
         Ok(place)
     }
 
-    /// Resolves a place that is in no part of the work.
+    /// Resolves an index that is in no part of the work.
     fn resolve(&mut self, watch: &Watch, place: usize) -> Result<(), AllocError>
         requires within { place < length watch.now.trail }
         requires reason { IsSome (get_or watch.now.reasons place None) }
         requires may { MayResolve watch.now self.old place }
         ensures { OnOk result (Meets watch.now (with_resolved self.old place) self.new
-            (reason_of_place watch.now place)) }
+            (reason_of_index watch.now place)) }
     {
         watch.keeps_facts();
         let reason = reason_at(watch, place);
@@ -255,7 +257,7 @@ impl Resolution {
         ensures { IsTrue result ↔ IsAbsorbed watch.now (is_seen self.now) lit }
     {
         let variable = lit.variable();
-        let Some(place) = watch.place(variable) else {
+        let Some(place) = watch.trail_index(variable) else {
             return false;
         };
         if self.seen.contains(place) {
@@ -264,7 +266,7 @@ impl Resolution {
         watch.level_of(variable) == Some(0)
     }
 
-    /// Whether a place has a reason, and each of its literals is absorbed.
+    /// Whether an index has a reason each of whose literals is absorbed.
     fn is_redundant(&self, watch: &Watch, place: usize) -> bool
         requires { place < length watch.now.trail }
         ensures { IsTrue result ↔ IsRedundant watch.now self.now place }
@@ -292,7 +294,7 @@ impl Resolution {
         true
     }
 
-    /// Takes one of the kept places out. Those that come to stand from it on stood behind it.
+    /// Removes one of the kept indices. Those from it on had been after it.
     fn drop_kept(&mut self, index: usize)
         requires { index < length self.old.kept }
         ensures drops { self.new ≡ record self.old {
@@ -340,7 +342,7 @@ impl Resolution {
         Ok(())
     }
 
-    /// Resolves what waits, and whatever comes to wait because of that.
+    /// Resolves what waits, and all that comes to wait because of that.
     pub fn close(&mut self, watch: &Watch) -> Result<(), AllocError>
         requires work { (high : ℕ) × IsWork watch.now high self.old }
         ensures resolves { OnOk result (Resolves watch.now self.old self.new) }
@@ -357,7 +359,7 @@ impl Resolution {
         Ok(())
     }
 
-    /// Sorts the resolved places.
+    /// Sorts the resolved indices.
     pub fn sort(&mut self)
         ensures sorted { SortsNumbers self.old.resolved self.new.resolved }
         ensures rest { self.new ≡ record self.old { resolved = self.new.resolved } }
@@ -365,14 +367,14 @@ impl Resolution {
         self.resolved.sort_unstable();
     }
 
-    /// The places that were resolved.
+    /// The indices that were resolved.
     pub fn resolved(&self) -> &[usize]
         ensures { result.now ≡ self.now.resolved }
     {
         self.resolved.as_slice()
     }
 
-    /// The numbers of the reasons of the resolved places, and then that of a clause.
+    /// The numbers of the reasons of the resolved indices, and then that of a clause.
     pub fn hints(
         &self,
         alloc: Global,
@@ -409,7 +411,7 @@ impl Resolution {
     }
 }
 
-/// The reason of a place.
+/// The reason of a trail index.
 fn reason_at(watch: &Watch, place: usize) -> ClauseRef
     requires within { place < length watch.now.trail }
     requires reason { IsSome (get_or watch.now.reasons place None) }
@@ -419,7 +421,7 @@ fn reason_at(watch: &Watch, place: usize) -> ClauseRef
     watch.reasons()[place].unwrap()
 }
 
-/// The number of the reason of a place.
+/// The number of the reason of a trail index.
 fn reason_number(watch: &Watch, place: usize) -> u64
     requires { IsSome (get_or watch.now.reasons place None) }
     ensures { result ≡ number_at watch.now place }
@@ -429,7 +431,7 @@ fn reason_number(watch: &Watch, place: usize) -> u64
     watch.arena().number(reason)
 }
 
-/// The place of the last decision.
+/// The trail index of the last decision.
 pub fn level_start(watch: &Watch) -> usize
     requires { 1 ≤ decided watch.now.reasons }
     ensures { IsStart watch.now result }

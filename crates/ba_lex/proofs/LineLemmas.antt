@@ -44,7 +44,7 @@ fails_on error.Memory inner outer passes is = tt
 pub answer-fault : (ts : List Token) (e : LexError) → length ts ≤ max_tokens → answer (record { tokens = ts; fault = Some e }) ≡ Err e
 answer-fault ts e few = ap (λ o. or_too_many o (Err e)) (slice_get_past ts max_tokens few)
 
--- an element stays where more follow
+-- an element stays if more follow
 get_stays : {X : Type 0} (xs ys : List X) (n : ℕ) (x : X) → slice_get xs n ≡ Some x → slice_get (xs ++ ys) n ≡ Some x
 get_stays [] ys n x is = cc
 get_stays (y ∷ xs) ys zero x is = is
@@ -99,7 +99,7 @@ module _ (table : Table) (out : List Token) (ps : List Piece) (few : length out 
       ap (λ o. or_too_many o (or_fault (line_reading ps).fault (out ++ (tokens_at at (replacement table kind) ++ tokens_with_macros table (line_reading ps).tokens)))) last.1
       ∙ ap (λ a. Err (error.TooMany a)) last.2
 
--- want of memory, or a token too many
+-- out of memory, or a token too many
 pub fails_or_memory : {P Y : Type 0} (e : LexError) (at : At) (expected : Result Y LexError) → (e ≡ error.Memory) ⊎ ((e ≡ error.TooMany at) × P) → (P → expected ≡ Err (error.TooMany at)) → Fails e expected
 fails_or_memory e at expected (inl memory) many = rw memory tt
 fails_or_memory e at expected (inr too_many) many = fails_from e expected (many too_many.1 ∙ ap Err (sym too_many.0))

@@ -28,12 +28,15 @@ use Rattle.ba_tokens.specs.contracts.token.TokenKindPartialEq.TheImpl.{eq-value}
 abbrev pub same_kind : TokenKind → TokenKind → Bool
 same_kind = eq-value.it
 
+-- the token is this name
 abbrev pub is_name : List ℕ → Token → Bool
 is_name name t = same_kind t.kind (kind.Name name)
 
+-- the token is this punctuator
 abbrev pub is_punct : Punct → Token → Bool
 is_punct p t = same_kind t.kind (kind.Punct p)
 
+-- the token is this keyword
 abbrev pub is_keyword : Keyword → Token → Bool
 is_keyword k t = same_kind t.kind (kind.Keyword k)
 
@@ -44,9 +47,11 @@ pub record Reading : Type 0 where
   pub tokens : List Token
   pub fault : Option LexError
 
+-- no token and no fault
 abbrev pub nothing : Reading
 nothing = record { tokens = []; fault = None }
 
+-- no token and this fault
 abbrev pub only_fault : LexError → Reading
 only_fault e = record { tokens = []; fault = Some e }
 
@@ -55,6 +60,7 @@ abbrev pub sequence_after : Option LexError → List Token → Reading → Readi
 sequence_after (Some e) tokens next = record { tokens = tokens; fault = Some e }
 sequence_after None tokens next = record { tokens = tokens ++ next.tokens; fault = next.fault }
 
+-- one text after the other, up to the first fault
 abbrev pub sequence : Reading → Reading → Reading
 sequence first next = sequence_after first.fault first.tokens next
 
@@ -92,10 +98,11 @@ tokens_in line = or_fault (line_reading line).fault (line_reading line).tokens
 abbrev pub Table : Type 0
 Table = List (List ℕ × List TokenKind)
 
+-- the tokens that a macro stands for, if the name is a macro's
 abbrev pub body_of : Table → List ℕ → Option (List TokenKind)
 body_of table name = lookup (bytes_eq name) table
 
--- what stands for a token of this kind: a macro's body for the macro's name, and the token itself for all others
+-- the tokens that replace a token of this kind: a macro's body for its name, and else the token itself
 abbrev pub replacement : Table → TokenKind → List TokenKind
 replacement table (kind.Name name) = unwrap_or (body_of table name) (kind.Name name ∷ [])
 replacement table (kind.Keyword k) = kind.Keyword k ∷ []
@@ -107,11 +114,13 @@ replacement table (kind.Punct p) = kind.Punct p ∷ []
 abbrev pub tokens_at : At → List TokenKind → List Token
 tokens_at at kinds = map (λ kind. record { kind = kind; at = at }) kinds
 
+-- tokens with their macros replaced, each at the position of the name
 abbrev pub tokens_with_macros : Table → List Token → List Token
 tokens_with_macros table ts = flat_map (λ t. tokens_at t.at (replacement table t.kind)) ts
 
 -- DIRECTIVES
 
+-- the token is the name of a header that may be included
 abbrev pub is_header_name : Token → Bool
 is_header_name t = is_keyword keyword.Assert t || (is_name (codes "stdio") t || is_name (codes "stdlib") t)
 
@@ -125,34 +134,36 @@ is_header (a ∷ b ∷ c ∷ d ∷ []) = false
 is_header (a ∷ b ∷ c ∷ d ∷ e ∷ []) = is_punct punct.Less a && (is_header_name b && (is_punct punct.Dot c && (is_name (codes "h") d && is_punct punct.Greater e)))
 is_header (a ∷ b ∷ c ∷ d ∷ e ∷ f ∷ ts) = false
 
--- the byte after the name that stands here is a parenthesis
+-- the byte after the name that is here is a parenthesis
 abbrev pub is_parenthesis_next : At → List ℕ → List Token → Bool
 is_parenthesis_next at name [] = false
 is_parenthesis_next at name (t ∷ ts) = is_punct punct.OpenParenthesis t && ((t.at.line == at.line) && (t.at.column == at.column + length name))
 
--- the name stands in a body
+-- the name is in a body
 abbrev pub is_in_body : List ℕ → List TokenKind → Bool
 is_in_body name body = list_any (same_kind (kind.Name name)) body
 
+-- how many macros a text may have
 abbrev pub max_macros : ℕ
 max_macros = 1000
 
+-- how many tokens the body of a macro may have
 abbrev pub max_body : ℕ
 max_body = 1000
 
--- what stands for the tokens of a body, whose names are replaced at once
+-- the tokens of a body after replacement; its names are replaced at once
 abbrev pub body_from : Table → List Token → List TokenKind
 body_from table ts = flat_map (λ t. replacement table t.kind) ts
 
--- A new macro, whose name stands here, with these tokens: the name may stand neither in a body so far nor among them,
--- and there may not be too much.
+-- A new macro, whose name is at this position, with these tokens. The name may be neither in an earlier body
+-- nor in its own, and no limit may be passed.
 abbrev pub with_new : Table → At → List ℕ → List Token → Result Table LexError
 with_new table at name ts =
     if list_any (is_name name) ts || list_any (λ m. is_in_body name m.1) table then Err (error.MacroOrder at)
     else (if nat_le max_macros (length table) || nat_lt max_body (length (body_from table ts)) then Err (error.TooMany at)
     else Ok (table ++ (name, body_from table ts) ∷ []))
 
--- a macro that is there may only be defined again with the same tokens
+-- a macro may be defined again only with the same tokens
 abbrev pub with_macro : Table → At → List ℕ → List Token → Option (List TokenKind) → Result Table LexError
 with_macro table at name ts None = with_new table at name ts
 with_macro table at name ts (Some old) = if pointwise same_kind old (body_from table ts) then Ok table else Err (error.Redefined at)
@@ -167,10 +178,12 @@ table_defining table hash at (kind.Constant t value) body = Err (error.BadDirect
 table_defining table hash at kind.Quoted body = Err (error.BadDirective hash)
 table_defining table hash at (kind.Punct p) body = Err (error.BadDirective hash)
 
+-- the table after a `#define`, or its fault
 abbrev pub definition : Table → At → List Token → Result Table LexError
 definition table hash [] = Err (error.BadDirective hash)
 definition table hash (t ∷ body) = table_defining table hash t.at t.kind body
 
+-- what is made of a value, unless there is a fault
 abbrev pub bind : {X Y : Type 0} → Result X LexError → (X → Result Y LexError) → Result Y LexError
 bind (Ok x) next = next x
 bind (Err e) next = Err e
@@ -183,12 +196,13 @@ table_after table hash (t ∷ ts) =
     else (if is_name (codes "include") t && is_header ts then Ok table
     else Err (error.BadDirective hash))
 
--- the table after the directive of this line, whose pieces at fault come first
+-- the table after the directive of this line; a fault of a piece in it comes first
 abbrev pub directive : Table → At → List Piece → Result Table LexError
 directive table hash line = bind (tokens_in line) (table_after table hash)
 
 -- THE WHOLE TEXT
 
+-- the piece ends a line
 abbrev pub is_line_end : Form → Bool
 is_line_end form.Blank = false
 is_line_end form.LineEnd = true
@@ -198,6 +212,7 @@ is_line_end form.BadByte = false
 is_line_end form.BadToken = false
 is_line_end form.NotInProfile = false
 
+-- the piece is a `#`
 abbrev pub is_hash : Form → Bool
 is_hash form.Blank = false
 is_hash form.LineEnd = false
@@ -212,6 +227,7 @@ abbrev pub begins_directive : List Piece → Bool
 begins_directive [] = false
 begins_directive (p ∷ ps) = is_hash p.form
 
+-- a piece at the front of the first line
 abbrev pub with_first : Piece → List (List Piece) → List (List Piece)
 with_first p [] = (p ∷ []) ∷ []
 with_first p (line ∷ lines) = (p ∷ line) ∷ lines
@@ -226,10 +242,11 @@ abbrev pub with_table : Result Table LexError → (Table → Reading) → Readin
 with_table (Ok table) rest = rest table
 with_table (Err e) rest = only_fault e
 
+-- the tokens of a line with their macros replaced
 abbrev pub reading_with_macros : Table → Reading → Reading
 reading_with_macros table line = record { tokens = tokens_with_macros table line.tokens; fault = line.fault }
 
--- the tokens of these lines, where these macros are defined before them
+-- the tokens of these lines, with these macros defined before them
 abbrev pub reading : Table → List (List Piece) → Reading
 reading table [] = nothing
 reading table ([] ∷ lines) = reading table lines
@@ -239,9 +256,11 @@ reading table ((p ∷ ps) ∷ lines) =
 
 -- THE ANSWER
 
+-- how many tokens a text may have once its macros are replaced
 abbrev pub max_tokens : ℕ
 max_tokens = 100000
 
+-- the answer, unless a token is past the limit
 abbrev pub or_too_many : Option Token → Result (List Token) LexError → Result (List Token) LexError
 or_too_many None answer = answer
 or_too_many (Some t) answer = Err (error.TooMany t.at)
@@ -265,7 +284,7 @@ Fails (error.Redefined at) expected = expected ≡ Err (error.Redefined at)
 Fails (error.TooMany at) expected = expected ≡ Err (error.TooMany at)
 Fails error.Memory expected = Unit {0}
 
--- what a call answers, seen by view, is what the definition gives, unless memory ran out
+-- a call's answer, seen by `view`, is what the definition gives, unless memory ran out
 abbrev pub Gives : {X Y : Type 0} → (X → Y) → Result X LexError → Result Y LexError → Type 0
 Gives view (Ok x) expected = expected ≡ Ok (view x)
 Gives view (Err e) expected = Fails e expected

@@ -17,10 +17,12 @@ use Rattle.ba_lex.specs.declared.piece.Piece.{Piece}
 
 -- PIECES: each with what it is, and how many bytes it has
 
+-- a token of this kind, or a bad token without one
 abbrev pub form_of : Option TokenKind → Form
 form_of None = BadToken
 form_of (Some kind) = Token kind
 
+-- the keyword, or the name if it is none
 abbrev pub name_or_keyword : List ℕ → Option Keyword → TokenKind
 name_or_keyword w None = kind.Name w
 name_or_keyword w (Some k) = kind.Keyword k
@@ -29,14 +31,16 @@ name_or_keyword w (Some k) = kind.Keyword k
 abbrev pub word_form : List ℕ → Form
 word_form w = if is_refused w then NotInProfile else Token (name_or_keyword w (keyword_of w))
 
+-- the word, and its length
 abbrev pub word_at : List ℕ → Form × ℕ
 word_at w = (word_form w, length w)
 
+-- the number, and its length
 abbrev pub number_at : List ℕ → Form × ℕ
 number_at w = (form_of (number_kind w), length w)
 
--- How many bytes follow an opening quote, up to and with the closing one: the next such quote on the line that
--- no backslash escapes. The flag says whether a backslash escapes the first byte.
+-- How many bytes follow an opening quote, up to and with the closing one: the next such quote on the line
+-- that no backslash escapes. The flag tells whether a backslash escapes the first byte.
 abbrev pub after_quote : ℕ → Bool → List ℕ → Option ℕ
 after_quote quote escaped [] = None
 after_quote quote escaped (b ∷ bs) =
@@ -53,6 +57,7 @@ piece_or_unfinished piece (Some n) = piece n
 abbrev pub character_at : List ℕ → Form × ℕ
 character_at bs = piece_or_unfinished (λ n. (form_of (character_kind (take (n - 1) bs)), n + 1)) (after_quote 39 false bs)
 
+-- the string that begins with a quote, and its length
 abbrev pub string_at : List ℕ → Form × ℕ
 string_at bs = piece_or_unfinished (λ n. (Token kind.Quoted, n + 1)) (after_quote 34 false bs)
 
@@ -74,7 +79,7 @@ comment_at bs = piece_or_unfinished (λ n. (Blank, n + 2)) (after_open bs)
 abbrev pub line_comment_at : List ℕ → Form × ℕ
 line_comment_at bs = (Blank, prefix_len (λ b. not (is_line_end b)) bs + 1)
 
--- this punctuator of n bytes, or what is there otherwise
+-- this punctuator of n bytes, or else the given piece
 abbrev pub punctuator_or : Option Punct → ℕ → Form × ℕ → Form × ℕ
 punctuator_or None n other = other
 punctuator_or (Some p) n other = (Token (kind.Punct p), n)
@@ -83,7 +88,7 @@ punctuator_or (Some p) n other = (Token (kind.Punct p), n)
 abbrev pub punctuator_at : List ℕ → Form × ℕ
 punctuator_at bs = punctuator_or (in_three bs) 3 (punctuator_or (in_two bs) 2 (punctuator_or (in_one bs) 1 (BadByte, 1)))
 
--- the piece that begins with b, which is no blank, letter or digit, where bs follows
+-- the piece that begins with b, which is no blank, letter or digit, and goes on in bs
 abbrev pub mark_at : ℕ → List ℕ → Form × ℕ
 mark_at b bs =
     if b == 39 then character_at bs
@@ -92,7 +97,7 @@ mark_at b bs =
     else (if (b == 47) && begins_with 47 bs then line_comment_at bs
     else punctuator_at (b ∷ bs))))
 
--- the piece that begins with b, where bs follows
+-- the piece that begins with b and goes on in bs
 abbrev pub piece_at : ℕ → List ℕ → Form × ℕ
 piece_at b bs =
     if is_line_end b then (LineEnd, 1)
@@ -109,16 +114,16 @@ first_piece (b ∷ bs) = piece_at b bs
 
 -- THE CUT
 
--- the position of the byte after b, where b stands at this one
+-- the position of the byte after b, which is at this position
 abbrev pub next_position : At → ℕ → At
 next_position at b = if is_line_end b then record { line = at.line + 1; column = 1 } else record { line = at.line; column = at.column + 1 }
 
--- the position of the byte after these, where the first of them stands at this one
+-- the position of the byte after these, the first of which is at this position
 abbrev pub position_after : At → List ℕ → At
 position_after at [] = at
 position_after at (b ∷ bs) = position_after (next_position at b) bs
 
--- a piece and those that follow it: blanks are left out, and nothing after a piece at fault is looked at
+-- a piece and those that follow it; blanks are left out, and nothing is cut after a piece at fault
 abbrev pub with_piece : Form → At → List Piece → List Piece
 with_piece Blank at rest = rest
 with_piece LineEnd at rest = record { form = LineEnd; at = at } ∷ rest
@@ -128,8 +133,8 @@ with_piece BadByte at rest = record { form = BadByte; at = at } ∷ []
 with_piece BadToken at rest = record { form = BadToken; at = at } ∷ []
 with_piece NotInProfile at rest = record { form = NotInProfile; at = at } ∷ []
 
--- The pieces of a text that begins at this position, where its first bytes, so many, belong to a piece that has
--- begun before it.
+-- The pieces of a text that begins at this position. Its first bytes, as many as the number tells, belong to
+-- a piece that began before it.
 abbrev pub cut : At → ℕ → List ℕ → List Piece
 cut at left [] = []
 cut at (suc left) (b ∷ bs) = cut (next_position at b) left bs

@@ -11,6 +11,7 @@ use Rattle.ba_tokens.specs.declared.token.Punct.TheVariants.{OpenBrace, CloseBra
 
 -- WORDS
 
+-- the keywords of the profile
 abbrev pub keywords : List (List ℕ × Keyword)
 keywords =
     (codes "char", Char) ∷
@@ -38,7 +39,7 @@ keywords =
     (codes "printf", Printf) ∷
     []
 
--- the keyword that is spelled so, if one is
+-- the keyword of this spelling, if there is one
 abbrev pub keyword_of : List ℕ → Option Keyword
 keyword_of word = lookup (bytes_eq word) keywords
 
@@ -58,11 +59,13 @@ refused_words =
     codes "volatile" ∷
     []
 
+-- the word is a keyword of C that the profile leaves out
 abbrev pub is_refused : List ℕ → Bool
 is_refused word = list_any (bytes_eq word) refused_words
 
 -- PUNCTUATORS of one, two and three bytes
 
+-- the punctuators of one byte
 abbrev pub punctuators_of_one : List (List ℕ × Punct)
 punctuators_of_one =
     (codes "{", OpenBrace) ∷
@@ -91,6 +94,7 @@ punctuators_of_one =
     (codes ".", Dot) ∷
     []
 
+-- the punctuators of two bytes
 abbrev pub punctuators_of_two : List (List ℕ × Punct)
 punctuators_of_two =
     (codes "++", Increment) ∷
@@ -114,6 +118,7 @@ punctuators_of_two =
     (codes "->", Arrow) ∷
     []
 
+-- the punctuators of three bytes
 abbrev pub punctuators_of_three : List (List ℕ × Punct)
 punctuators_of_three =
     (codes "<<=", ShiftLeftAssign) ∷
@@ -121,12 +126,15 @@ punctuators_of_three =
     (codes "...", Ellipsis) ∷
     []
 
+-- the punctuator that this byte spells
 abbrev pub one_byte : ℕ → Option Punct
 one_byte a = lookup (bytes_eq (a ∷ [])) punctuators_of_one
 
+-- the punctuator that these two bytes spell
 abbrev pub two_bytes : ℕ → ℕ → Option Punct
 two_bytes a b = lookup (bytes_eq (a ∷ b ∷ [])) punctuators_of_two
 
+-- the punctuator that these three bytes spell
 abbrev pub three_bytes : ℕ → ℕ → ℕ → Option Punct
 three_bytes a b c = lookup (bytes_eq (a ∷ b ∷ c ∷ [])) punctuators_of_three
 
@@ -135,11 +143,13 @@ abbrev pub in_one : List ℕ → Option Punct
 in_one [] = None
 in_one (a ∷ bs) = one_byte a
 
+-- the punctuator that the first two bytes spell
 abbrev pub in_two : List ℕ → Option Punct
 in_two [] = None
 in_two (a ∷ []) = None
 in_two (a ∷ b ∷ bs) = two_bytes a b
 
+-- the punctuator that the first three bytes spell
 abbrev pub in_three : List ℕ → Option Punct
 in_three [] = None
 in_three (a ∷ []) = None

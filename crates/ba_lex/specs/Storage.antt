@@ -1,4 +1,4 @@
--- How the table of macros is held: a map from names to bodies, and the set of the names that stand in bodies.
+-- How the table of macros is stored: a map from names to bodies, and the set of the names in bodies.
 
 use Rattle.std.specs.Prelude.{◌≡◌, ℕ, Bool, true, List, map}
 use Rattle.std.specs.List.{list_any}
@@ -14,6 +14,7 @@ use Rattle.ba_tokens.specs.declared.token.TokenKind.{TokenKind}
 abbrev pub Key : Type 0
 Key = Vec ℕ Global
 
+-- the table that stored entries hold
 abbrev pub table_of : List (Key × List TokenKind) → Table
 table_of entries = map (λ e. (e.0.items, e.1)) entries
 
@@ -21,15 +22,15 @@ table_of entries = map (λ e. (e.0.items, e.1)) entries
 abbrev pub is_among : List ℕ → List Key → Bool
 is_among name keys = list_any (λ k. bytes_eq name k.items) keys
 
--- the name stands in a body of the table
+-- the name is in a body of the table
 abbrev pub is_mentioned : List ℕ → Table → Bool
 is_mentioned name table = list_any (λ m. is_in_body name m.1) table
 
--- the keys are the names that stand in bodies
+-- the keys are the names that are in bodies
 abbrev pub AreMentioned : List Key → Table → Type 0
 AreMentioned keys table = (name : List ℕ) → is_among name keys ≡ is_mentioned name table
 
--- the names that stand in bodies are among the keys
+-- the names that are in bodies are among the keys
 abbrev pub HaveNamesOf : List Key → Table → Type 0
 HaveNamesOf keys table = (name : List ℕ) → is_mentioned name table ≡ true → is_among name keys ≡ true
 

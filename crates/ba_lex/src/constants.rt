@@ -41,6 +41,7 @@ fn value_within(base: u8, digits: &[u8], limit: u32) -> Option<u32>
     Some(value as u32)
 }
 
+/// Whether the number begins with `0x` or `0X`.
 fn is_hexadecimal(number: &[u8]) -> bool
     ensures { result ≡ is_hexadecimal number.now }
 {
@@ -50,6 +51,7 @@ fn is_hexadecimal(number: &[u8]) -> bool
     }
 }
 
+/// The base of a number: 16 after `0x`, 8 after another `0`, else 10.
 fn base_of(number: &[u8]) -> u8
     ensures value { result ≡ base_of number.now }
     ensures positive { 0 < result }
@@ -63,6 +65,7 @@ fn base_of(number: &[u8]) -> u8
     }
 }
 
+/// The number without `0x`.
 fn without_prefix(number: &[u8]) -> &[u8]
     ensures { result.now ≡ without_prefix number.now }
 {
@@ -72,18 +75,21 @@ fn without_prefix(number: &[u8]) -> &[u8]
     }
 }
 
+/// Whether the byte is `u` or `U`.
 fn is_u(byte: u8) -> bool
     ensures { result ≡ is_u byte }
 {
     byte == b'u' || byte == b'U'
 }
 
+/// Whether the byte is `l` or `L`.
 fn is_l(byte: u8) -> bool
     ensures { result ≡ is_l byte }
 {
     byte == b'l' || byte == b'L'
 }
 
+/// Whether the text is a suffix of integer constants: at most one `u` and one `l`.
 fn is_suffix(text: &[u8]) -> bool
     ensures { result ≡ is_suffix text.now }
 {
@@ -95,12 +101,15 @@ fn is_suffix(text: &[u8]) -> bool
     }
 }
 
+/// Whether the suffix has a `u`.
 fn has_u(suffix: &[u8]) -> bool
     ensures { result ≡ list_any is_u suffix.now }
 {
     suffix.iter().any(|byte| is_u(*byte))
 }
 
+/// The constant of these digits and this suffix, if there is a digit, the suffix is one, and the value fits
+/// 32 bits.
 fn number_of(base: u8, digits: &[u8], suffix: &[u8]) -> Option<TokenKind>
     requires { 0 < base }
     ensures { result ≡ number_of base digits.now suffix.now }
@@ -120,6 +129,7 @@ fn number_of(base: u8, digits: &[u8], suffix: &[u8]) -> Option<TokenKind>
     })
 }
 
+/// How many digits of the base the text begins with.
 fn digit_count(base: u8, text: &[u8]) -> usize
     ensures count { result ≡ digit_count base text.now }
     ensures within { result ≤ length text.now }
@@ -129,6 +139,7 @@ fn digit_count(base: u8, text: &[u8]) -> usize
         .count()
 }
 
+/// The constant that a number without prefix spells in this base, if it is one.
 fn number_with(base: u8, text: &[u8]) -> Option<TokenKind>
     requires { 0 < base }
     ensures { result ≡ number_with base text.now }
@@ -137,7 +148,7 @@ fn number_with(base: u8, text: &[u8]) -> Option<TokenKind>
     number_of(base, digits, suffix)
 }
 
-/// The constant that a number is, if it keeps its form and its value fits 32 bits.
+/// The constant that a number spells, if it keeps its form and its value fits 32 bits.
 #[tactic(auto, unfolding(crate::specs::Constants::number_kind))]
 pub(crate) fn number_kind(number: &[u8]) -> Option<TokenKind>
     ensures { result ≡ number_kind number.now }
@@ -145,12 +156,14 @@ pub(crate) fn number_kind(number: &[u8]) -> Option<TokenKind>
     number_with(base_of(number), without_prefix(number))
 }
 
+/// Whether all bytes are digits of the base.
 fn are_digits(base: u8, text: &[u8]) -> bool
     ensures { result ≡ list_all (λ b. is_digit b base) text.now }
 {
     text.iter().all(|byte| is_digit(*byte, base))
 }
 
+/// The value of one digit or more, all of the base, if it is at most 255.
 fn byte_code(base: u8, digits: &[u8]) -> Option<u8>
     requires { 0 < base }
     ensures { result ≡ byte_code base digits.now }
@@ -162,6 +175,7 @@ fn byte_code(base: u8, digits: &[u8]) -> Option<u8>
     Some(value as u8)
 }
 
+/// The value of an escape of one letter or mark (C90 6.1.3.4).
 fn simple_escape(byte: u8) -> Option<u8>
     ensures { result ≡ simple_escape byte }
 {
@@ -181,6 +195,8 @@ fn simple_escape(byte: u8) -> Option<u8>
     }
 }
 
+/// The value of what follows a backslash: `x` and hexadecimal digits, up to three octal digits, or a simple
+/// escape.
 fn escape_value(text: &[u8]) -> Option<u8>
     ensures { result ≡ escape_value text.now }
 {
@@ -203,12 +219,14 @@ fn escape_value(text: &[u8]) -> Option<u8>
     }
 }
 
+/// Whether the byte is a printing one of ASCII, and neither a quote nor a backslash.
 fn is_plain(byte: u8) -> bool
     ensures { result ≡ is_plain byte }
 {
     32 <= byte && byte <= 126 && byte != b'\'' && byte != b'\\'
 }
 
+/// The value of what is between the quotes of a character constant, if it is one byte or escape.
 fn character_value(text: &[u8]) -> Option<u8>
     ensures { result ≡ character_value text.now }
 {
@@ -227,7 +245,7 @@ fn signed_char(byte: u8) -> i64
     if byte < 128 { value } else { value - 256 }
 }
 
-/// The constant that a character constant is, by the bytes between its quotes.
+/// The constant that a character constant spells, by the bytes between its quotes.
 #[tactic(auto, unfolding(crate::specs::Constants::character_kind))]
 pub(crate) fn character_kind(text: &[u8]) -> Option<TokenKind>
     ensures { result ≡ character_kind text.now }

@@ -19,6 +19,7 @@ const MAX_MACROS: usize = 1000;
 /// The greatest number of tokens of one macro's body.
 const MAX_BODY: usize = 1000;
 
+/// Whether the token is this name.
 fn is_name(token: &Token, name: &[u8]) -> bool
     ensures { result ≡ is_name name.now token.now }
 {
@@ -28,6 +29,7 @@ fn is_name(token: &Token, name: &[u8]) -> bool
     }
 }
 
+/// Whether the token is this punctuator.
 fn is_punct(token: &Token, wanted: Punct) -> bool
     ensures { result ≡ is_punct wanted token.now }
 {
@@ -37,6 +39,7 @@ fn is_punct(token: &Token, wanted: Punct) -> bool
     }
 }
 
+/// Whether the token is this keyword.
 fn is_keyword(token: &Token, wanted: Keyword) -> bool
     ensures { result ≡ is_keyword wanted token.now }
 {
@@ -46,6 +49,7 @@ fn is_keyword(token: &Token, wanted: Keyword) -> bool
     }
 }
 
+/// Whether the token is the name of a header that may be included.
 fn is_header_name(token: &Token) -> bool
     ensures { result ≡ is_header_name token.now }
 {
@@ -83,7 +87,7 @@ fn is_parenthesis_next(at: At, name: &[u8], body: &[Token]) -> bool
     }
 }
 
-/// Whether more tokens than so many stand for these.
+/// Whether these tokens have more than `limit` tokens after replacement.
 fn is_longer(macros: &Macros, tokens: &[Token], limit: usize) -> bool
     ensures { result ≡ nat_lt limit (length (body_from macros.now tokens.now)) }
 {
@@ -98,14 +102,14 @@ fn is_longer(macros: &Macros, tokens: &[Token], limit: usize) -> bool
     false
 }
 
-/// Whether the name stands among the tokens.
+/// Whether the name is among the tokens.
 fn has_name(tokens: &[Token], name: &[u8]) -> bool
     ensures { result ≡ list_any (is_name name.now) tokens.now }
 {
     tokens.iter().any(|token| is_name(token, name))
 }
 
-/// The table with a new macro, unless it comes too late or is too much.
+/// The table with a new macro, unless its name is used too soon or a limit is passed.
 fn with_new(
     alloc: Global,
     macros: Macros,
@@ -125,7 +129,7 @@ fn with_new(
     Ok(macros.with(alloc, name, body)?)
 }
 
-/// Whether the same tokens as the old ones stand for these.
+/// Whether these tokens, after replacement, are the same as the old ones.
 fn is_same(
     alloc: Global,
     macros: &Macros,
@@ -142,6 +146,7 @@ fn is_same(
     Ok(are_same(old, kinds.as_slice()))
 }
 
+/// Whether both lists have the same tokens.
 fn are_same(old: &[TokenKind], new: &[TokenKind]) -> bool
     ensures { result ≡ pointwise same_kind old.now new.now }
 {

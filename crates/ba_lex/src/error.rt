@@ -4,35 +4,38 @@ use ba_numbers::ids::At;
 use std::alloc::{AllocError, AllocFailed};
 use thiserror::Error;
 
-/// The first error of a text, at its position, or want of memory. In a directive the error of a piece comes
-/// before an error of the line, and of the line's errors the first in the order `BadDirective`, `Redefined`,
-/// `MacroOrder`, `TooMany`.
+/// The first error of a text at its position, or out of memory.
+///
+/// In a directive the error of a piece comes before an error of the line. The errors of a line come in the
+/// order `BadDirective`, `Redefined`, `MacroOrder`, `TooMany`.
 #[derive(Clone, Copy, Debug, PartialEq, Eq, Error)]
 pub enum LexError {
-    /// A byte outside comments, strings and character constants begins no piece and is no blank; at the byte.
+    /// A byte outside comments, strings and character constants begins no piece and is no blank. The position
+    /// is the byte's.
     #[error("no token begins so")]
     BadByte(At),
-    /// A piece is unfinished, or breaks its form or its value, or a `#` isn't the first piece of its line; at its
-    /// first byte.
+    /// A piece is unfinished or breaks its form or value, or a `#` isn't first on its line. The position is
+    /// that of the first byte.
     #[error("no token has this form")]
     BadToken(At),
-    /// A word of C that the profile leaves out, also in a directive; at the word.
+    /// A word of C that the profile leaves out, also in a directive. The position is the word's.
     #[error("the word isn't in the profile")]
     NotInProfile(At),
-    /// A directive of another form than those of the profile, or a macro whose name is no name; at the `#`.
+    /// A directive has another form than those of the profile, or a macro's name is no name. The position is
+    /// that of the `#`.
     #[error("no directive has this form")]
     BadDirective(At),
-    /// The name of a new macro stands in the body of an earlier macro or in its own; at the name.
+    /// The name of a new macro is in the body of an earlier macro or in its own. The position is the name's.
     #[error("the macro is used before it is defined")]
     MacroOrder(At),
-    /// The name is a macro with other tokens; at the name.
+    /// The name is a macro with other tokens. The position is the name's.
     #[error("the macro is defined otherwise")]
     Redefined(At),
-    /// The 1,001st macro, or a macro whose body has more than 1,000 tokens after its names were replaced, at its
-    /// name; or token 100,001, at the token.
+    /// A limit is passed. The 1,001st macro, or a body of more than 1,000 tokens after replacement, has the
+    /// position of its name. Token 100,001 has its own position.
     #[error("too many macros or tokens")]
     TooMany(At),
-    /// There was no memory.
+    /// Out of memory.
     #[error("out of memory")]
     Memory,
 }

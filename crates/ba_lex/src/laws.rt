@@ -10,19 +10,20 @@ ghost use Rattle.ba_lex.specs.Pieces.{cut, position_after};
 ghost use Rattle.ba_lex.specs.declared.error.LexError.{LexError};
 ghost use Rattle.ba_tokens.specs.declared.token.TokenKind.{TokenKind};
 
-/// The test of two kinds of tokens decides whether they are the same: names by their bytes, constants by type
-/// and value, keywords and punctuators each by itself, and all strings alike.
+/// Law: the test of two kinds of tokens decides whether they are the same. Names are compared by bytes,
+/// constants by type and value, keywords and punctuators by themselves. All strings are alike.
 pub fn kinds_are_compared_whole()
     ensures { (a b : TokenKind) → Decides (same_kind a b) (a ≡ b) }
 {}
 
-/// The bytes of a piece that has begun are passed over: the cut goes on behind them, at the position after them.
+/// Law: the cut passes over the bytes of a piece that has begun, and goes on at the position after them.
 pub fn pieces_stand_side_by_side()
     ensures { (bytes : List ℕ) (at : At) (left : ℕ) →
         cut at left bytes ≡ cut (position_after at (take left bytes)) 0 (drop left bytes) }
 {}
 
-/// A word and a number are as long as they can be: the byte after one, where there is one, could not go on.
+/// Law: words and numbers are as long as they can be. The byte after one, if there is one, could not continue
+/// it.
 pub fn words_and_numbers_are_longest()
     ensures word { (bytes : List ℕ)
         → is_word_byte (slice_index bytes (prefix_len is_word_byte bytes)) ≡ false }
@@ -30,7 +31,7 @@ pub fn words_and_numbers_are_longest()
         → is_number_byte (slice_index bytes (prefix_len is_number_byte bytes)) ≡ false }
 {}
 
-/// The first error stands, whatever follows it.
+/// Law: the first error stays, whatever follows it.
 pub fn first_error_stands()
     ensures { (first next : Reading) (e : LexError) →
         answer first ≡ Err e → answer (sequence first next) ≡ Err e }

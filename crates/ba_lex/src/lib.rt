@@ -1,8 +1,7 @@
-//! From the bytes of a C program to its tokens (C90 5.1.1.2, 6.1, 6.8).
+//! The lexer and preprocessor of the profile (C90 5.1.1.2, 6.1, 6.8).
 //!
-//! [`tokens`] cuts a text into its pieces, each as long as it can be, reads its directives, and replaces its
-//! macros. The text is in a profile of C90 with whole numbers only: every other text has a first error, with its
-//! position.
+//! [`tokens`] cuts a text into pieces, each as long as it can be, reads its directives, and replaces its
+//! macros. The profile is C90 with whole numbers only. Every other text has a first error, with its position.
 #![tactic(auto)]
 
 mod constants;
@@ -29,10 +28,9 @@ pub const MAX_TEXT: usize = 65536;
 
 /// The tokens of a text, with its macros replaced; or its first error.
 ///
-/// The text has at most 65,536 bytes. The answer is that of the definition of a text's tokens, in each of its
-/// cases: the tokens with their positions, or the first error at its position. Tokens of one name that come from
-/// one macro share its bytes.
-/// [`LexError::Memory`] alone is free.
+/// The text has at most 65,536 bytes. The answer is that of the definition: all tokens with their positions,
+/// or the first error at its position. Copies of one name that come from one macro share its bytes. Only
+/// [`LexError::Memory`] may come for any text.
 #[tactic(auto, unfolding(crate::specs::Lines::tokens_of))]
 pub fn tokens(alloc: Global, text: &[u8]) -> Result<Vec<Token>, LexError>
     requires { length text.now ≤ MAX_TEXT }
@@ -42,7 +40,7 @@ pub fn tokens(alloc: Global, text: &[u8]) -> Result<Vec<Token>, LexError>
     read_lines(alloc, pieces.as_slice())
 }
 
-/// The tokens of the lines that are made of these pieces.
+/// The tokens of the lines that these pieces form.
 fn read_lines(alloc: Global, pieces: &[Piece]) -> Result<Vec<Token>, LexError>
     ensures { Gives (λ v. v.items) result (answer (reading [] (lines_of pieces.now))) }
 {

@@ -32,6 +32,7 @@ fn fault_of(piece: &Piece) -> Option<LexError>
     }
 }
 
+/// Adds a token, unless there are too many. Else the error is at this position.
 fn push_token(out: &mut Vec<Token>, kind: &TokenKind, at: At) -> Result<(), LexError>
     requires { length out.old.items ≤ MAX_TOKENS }
     ensures ok { OnOk result ((out.new.items ≡ out.old.items ++ tokens_at at (kind.now ∷ []))
@@ -49,7 +50,7 @@ fn push_token(out: &mut Vec<Token>, kind: &TokenKind, at: At) -> Result<(), LexE
     Ok(())
 }
 
-/// Adds tokens of these kinds, all at this position.
+/// Appends tokens of these kinds, all at this position.
 fn push_tokens(out: &mut Vec<Token>, kinds: &[TokenKind], at: At) -> Result<(), LexError>
     requires { length out.old.items ≤ MAX_TOKENS }
     ensures ok { OnOk result ((out.new.items ≡ out.old.items ++ tokens_at at kinds.now)
@@ -63,7 +64,7 @@ fn push_tokens(out: &mut Vec<Token>, kinds: &[TokenKind], at: At) -> Result<(), 
     Ok(())
 }
 
-/// Adds the tokens of a line of the program, whose macros are replaced.
+/// Appends the tokens of a line of the program, whose macros are replaced.
 fn text_line(macros: &Macros, out: &mut Vec<Token>, line: &[Piece]) -> Result<(), LexError>
     requires { length out.old.items ≤ MAX_TOKENS }
     ensures ok { OnOk result ((reading_so_far macros.now out.old.items line.now
@@ -102,6 +103,7 @@ pub fn line_tokens(alloc: Global, line: &[Piece]) -> Result<Vec<Token>, LexError
     Ok(tokens)
 }
 
+/// Whether the piece ends a line.
 fn is_line_end(piece: &Piece) -> bool
     ensures { result ≡ is_line_end piece.now.form }
 {
@@ -140,7 +142,7 @@ pub fn line_length(pieces: &[Piece]) -> usize
     pieces.len()
 }
 
-/// Reads a line: adds the tokens of a line of the program, or gives the table after a directive.
+/// Reads a line: appends the tokens of a line of the program, or gives the table after a directive.
 pub fn read_line(
     alloc: Global,
     macros: Macros,

@@ -12,10 +12,11 @@ use indexmap::{IndexMap, IndexSet};
 use std::alloc::{AllocError, Global};
 use std::marker::Model;
 
-/// The macros defined so far, in their order: each name with its body. Contracts see the list of these pairs.
+/// The macros defined so far, in their order: each name with its body. A contract sees the list of these
+/// pairs.
 pub struct Macros {
     bodies: IndexMap<Vec<u8>, Items<TokenKind>>,
-    /// The names that stand in bodies.
+    /// The names that are in bodies.
     mentioned: IndexSet<Vec<u8>>,
 }
 
@@ -67,16 +68,16 @@ impl Macros {
         self.bodies.get(name)
     }
 
-    /// Whether the name stands in the body of a macro.
+    /// Whether the name is in the body of a macro.
     pub fn is_mentioned(&self, name: &[u8]) -> bool
         ensures { result ≡ is_mentioned name.now self.now }
     {
         self.mentioned.contains(name)
     }
 
-    /// The table with one more macro, whose body is what stands for these tokens.
+    /// The table with one more macro, whose body is these tokens after replacement.
     ///
-    /// The one error is want of memory.
+    /// The only error is out of memory.
     pub fn with(self, alloc: Global, name: &[u8], tokens: &[Token]) -> Result<Macros, AllocError>
         requires { body_of self name.now ≡ None }
         ensures { IfOk result (λ table. table ≡ self
@@ -93,7 +94,7 @@ impl Macros {
     }
 }
 
-/// What stands for a token of this kind.
+/// The tokens that replace a token of this kind.
 pub fn replacement<'m>(macros: &'m Macros, kind: &'m TokenKind) -> &'m [TokenKind]
     ensures { result.now ≡ replacement macros.now kind.now }
 {
@@ -119,7 +120,7 @@ fn mention(alloc: Global, mentioned: &mut IndexSet<Vec<u8>>, name: &[u8]) -> Res
     Ok(())
 }
 
-/// Adds the name to the set that stands for the token, if one does. The names in bodies are there already.
+/// Adds the name to the set that replaces the token, if a name does. The names in bodies are there already.
 fn mention_token(
     alloc: Global,
     mentioned: &mut IndexSet<Vec<u8>>,
@@ -141,7 +142,7 @@ fn mention_token(
     mention(alloc, mentioned, name.as_bytes())
 }
 
-/// Adds the names that stand in what stands for these tokens to the set.
+/// Adds the names of these tokens after replacement to the set.
 fn mention_all(
     alloc: Global,
     mentioned: &mut IndexSet<Vec<u8>>,
@@ -160,6 +161,7 @@ fn mention_all(
     Ok(())
 }
 
+/// Appends copies of the tokens.
 fn push_kinds(body: &mut Items<TokenKind>, kinds: &[TokenKind]) -> Result<(), AllocError>
     ensures { OnOk result (body.new ≡ body.old ++ kinds.now) }
 {
@@ -169,9 +171,9 @@ fn push_kinds(body: &mut Items<TokenKind>, kinds: &[TokenKind]) -> Result<(), Al
     Ok(())
 }
 
-/// What stands for these tokens.
+/// These tokens after replacement.
 ///
-/// The one error is want of memory.
+/// The only error is out of memory.
 pub fn body_from(
     alloc: Global,
     macros: &Macros,

@@ -14,7 +14,7 @@ use ba_numbers::ids::At;
 use ba_tokens::token::{Name, Punct, TokenKind};
 use std::alloc::{AllocError, Global};
 
-/// What a piece of a text is; the definition of a text's tokens speaks of these forms too. A comment is a blank.
+/// What a piece of a text is. The definition of a text's tokens uses these forms too. A comment is a blank.
 #[derive(Debug, Drop)]
 pub enum Form {
     Blank,
@@ -36,6 +36,7 @@ pub struct Piece {
     pub at: At,
 }
 
+/// How many bytes of a word the text begins with.
 fn word_count(text: &[u8]) -> usize
     ensures count { result ≡ prefix_len is_word_byte text.now }
     ensures within { result ≤ length text.now }
@@ -43,6 +44,7 @@ fn word_count(text: &[u8]) -> usize
     text.iter().take_while(|byte| is_word_byte(**byte)).count()
 }
 
+/// How many bytes of a number the text begins with.
 fn number_count(text: &[u8]) -> usize
     ensures count { result ≡ prefix_len is_number_byte text.now }
     ensures within { result ≤ length text.now }
@@ -52,6 +54,7 @@ fn number_count(text: &[u8]) -> usize
         .count()
 }
 
+/// How many bytes are before the end of the line.
 fn line_count(text: &[u8]) -> usize
     ensures count { result ≡ prefix_len (λ b. not (is_line_end b)) text.now }
     ensures within { result ≤ length text.now }
@@ -59,6 +62,7 @@ fn line_count(text: &[u8]) -> usize
     text.iter().take_while(|byte| !is_line_end(**byte)).count()
 }
 
+/// The piece of this token; a bad one without a token.
 fn form_of(kind: Option<TokenKind>) -> Form
     ensures { result ≡ form_of kind }
 {
@@ -68,6 +72,7 @@ fn form_of(kind: Option<TokenKind>) -> Form
     }
 }
 
+/// The piece of a word: a keyword, a name, or a word that is not in the profile.
 fn word_form(alloc: Global, word: &[u8]) -> Result<Form, AllocError>
     ensures { IfOk result (λ form. form ≡ word_form word.now) }
 {
@@ -80,6 +85,7 @@ fn word_form(alloc: Global, word: &[u8]) -> Result<Form, AllocError>
     }
 }
 
+/// The piece of a word, and its length.
 fn word_at(alloc: Global, word: &[u8]) -> Result<(Form, usize), AllocError>
     ensures value { IfOk result (λ piece. piece ≡ word_at word.now) }
     ensures within { IfOk result (λ piece. piece.1 ≡ length word.now) }
@@ -87,6 +93,7 @@ fn word_at(alloc: Global, word: &[u8]) -> Result<(Form, usize), AllocError>
     Ok((word_form(alloc, word)?, word.len()))
 }
 
+/// The piece of a number, and its length.
 fn number_at(number: &[u8]) -> (Form, usize)
     ensures value { result ≡ number_at number.now }
     ensures within { result.1 ≡ length number.now }
@@ -94,6 +101,8 @@ fn number_at(number: &[u8]) -> (Form, usize)
     (form_of(number_kind(number)), number.len())
 }
 
+/// How many bytes there are up to and with the closing quote, None if none comes in this line. A quote after
+/// a backslash closes nothing.
 fn after_quote(quote: u8, text: &[u8]) -> Option<usize>
     ensures value { result ≡ after_quote quote false text.now }
     ensures within { IfSome result (λ n. (1 ≤ n) × (n ≤ length text.now)) }
@@ -111,6 +120,7 @@ fn after_quote(quote: u8, text: &[u8]) -> Option<usize>
     None
 }
 
+/// The piece of a character constant whose opening quote is before `rest`, and its length.
 fn character_at(rest: &[u8]) -> (Form, usize)
     requires { length rest.now ≤ MAX_TEXT }
     ensures value { result ≡ character_at rest.now }
@@ -122,6 +132,7 @@ fn character_at(rest: &[u8]) -> (Form, usize)
     }
 }
 
+/// The piece of a string whose opening quote is before `rest`, and its length.
 fn string_at(rest: &[u8]) -> (Form, usize)
     requires { length rest.now ≤ MAX_TEXT }
     ensures value { result ≡ string_at rest.now }
@@ -133,6 +144,7 @@ fn string_at(rest: &[u8]) -> (Form, usize)
     }
 }
 
+/// Whether the text begins with `*` and `/`.
 fn is_comment_end(text: &[u8]) -> bool
     ensures { result ≡ is_comment_end text.now }
 {
@@ -142,6 +154,7 @@ fn is_comment_end(text: &[u8]) -> bool
     }
 }
 
+/// How many bytes of a comment follow its opening, up to and with its end; None if it never ends.
 fn after_open(text: &[u8]) -> Option<usize>
     ensures value { result ≡ after_open text.now }
     ensures within { IfSome result (λ n. (1 ≤ n) × (n ≤ length text.now)) }
@@ -154,6 +167,7 @@ fn after_open(text: &[u8]) -> Option<usize>
     None
 }
 
+/// The piece of a comment whose opening is before `rest`, and its length.
 fn comment_at(rest: &[u8]) -> (Form, usize)
     requires { length rest.now ≤ MAX_TEXT }
     ensures value { result ≡ comment_at rest.now }
@@ -165,6 +179,7 @@ fn comment_at(rest: &[u8]) -> (Form, usize)
     }
 }
 
+/// The piece of a punctuator of so many bytes, or the other piece without one.
 fn punctuator_or(punct: Option<Punct>, count: usize, other: (Form, usize)) -> (Form, usize)
     ensures value { result ≡ punctuator_or punct count other }
     ensures which { MatchOption punct (result.1 ≡ other.1) (λ p. result.1 ≡ count) }
@@ -175,6 +190,7 @@ fn punctuator_or(punct: Option<Punct>, count: usize, other: (Form, usize)) -> (F
     }
 }
 
+/// The longest punctuator that the text begins with, and its length; a bad byte if there is none.
 fn punctuator_at(text: &[u8]) -> (Form, usize)
     requires { 0 < length text.now }
     ensures value { result ≡ punctuator_at text.now }
@@ -205,6 +221,7 @@ fn mark_at(first: u8, rest: &[u8], text: &[u8]) -> (Form, usize)
     }
 }
 
+/// The first piece of a text, by its first byte, and its length.
 fn piece_at(alloc: Global, first: u8, rest: &[u8], text: &[u8]) -> Result<(Form, usize), AllocError>
     requires parts { text.now ≡ first ∷ rest.now }
     requires short { length text.now ≤ MAX_TEXT }
@@ -237,7 +254,7 @@ fn first_piece(alloc: Global, text: &[u8]) -> Result<(Form, usize), AllocError>
     piece_at(alloc, text[0], &text[1..], text)
 }
 
-/// The position after a byte that stands here.
+/// The position after a byte at this position.
 fn next_position(at: At, byte: u8) -> At
     requires line { at.line < u32.MAX }
     requires column { at.column < u32.MAX }
@@ -256,7 +273,7 @@ fn next_position(at: At, byte: u8) -> At
     }
 }
 
-/// The position after the bytes of a piece that begins here.
+/// The position after the bytes of a piece that begins at this position.
 fn position_after(at: At, piece: &[u8]) -> At
     requires column { 1 ≤ at.column }
     requires room { at.line + at.column + length piece.now ≤ MAX_TEXT + 2 }
@@ -271,7 +288,7 @@ fn position_after(at: At, piece: &[u8]) -> At
     here
 }
 
-/// Adds a piece, unless it is a blank, and says whether the text is read on.
+/// Appends a piece, unless it is a blank, and tells whether reading goes on.
 fn push_piece(pieces: &mut Vec<Piece>, form: Form, at: At) -> Result<bool, AllocError>
     ensures { IfOk result (λ goes_on. (rest : List Piece) →
         pieces.old.items ++ with_piece form at rest
@@ -292,7 +309,7 @@ fn push_piece(pieces: &mut Vec<Piece>, form: Form, at: At) -> Result<bool, Alloc
 
 /// The pieces of a text, up to the first at fault.
 ///
-/// The one error is want of memory.
+/// The only error is out of memory.
 pub fn pieces(alloc: Global, text: &[u8]) -> Result<Vec<Piece>, AllocError>
     requires { length text.now ≤ MAX_TEXT }
     ensures { IfOk result (λ pieces. pieces.items ≡ pieces_of text.now) }

@@ -13,7 +13,7 @@ pub(crate) fn is_spelled(word: &[u8], text: &str) -> bool
     word == text.as_bytes()
 }
 
-/// The keyword that is spelled so, if one is.
+/// The keyword of this spelling, if there is one.
 pub(crate) fn keyword_of(word: &[u8]) -> Option<Keyword>
     ensures { result ≡ keyword_of word.now }
 {
@@ -99,6 +99,7 @@ pub(crate) fn is_refused(word: &[u8]) -> bool
     }
 }
 
+/// The punctuator of this byte.
 fn one_byte(first: u8) -> Option<Punct>
     ensures { result ≡ one_byte first }
 {
@@ -131,6 +132,7 @@ fn one_byte(first: u8) -> Option<Punct>
     }
 }
 
+/// The punctuator of these two bytes.
 fn two_bytes(first: u8, second: u8) -> Option<Punct>
     ensures { result ≡ two_bytes first second }
 {
@@ -158,6 +160,7 @@ fn two_bytes(first: u8, second: u8) -> Option<Punct>
     }
 }
 
+/// The punctuator of these three bytes.
 fn three_bytes(first: u8, second: u8, third: u8) -> Option<Punct>
     ensures { result ≡ three_bytes first second third }
 {

@@ -19,7 +19,7 @@ clause_false v (x ∷ xs) no_true l has =
     (λ rest. clause_false v xs parts.1 l rest)
     (or_cases (eqb (index_of x) (index_of l)) (has_literal l xs) has)
 
--- what it means for a clause's truth how it stands where false literals are false
+-- what it means for a clause's truth how it stands if false literals are false
 abbrev Says : Assignment → Standing → Bool → Type 0
 Says v IsFalse holds = holds ≡ false
 Says v (IsUnit l) holds = holds ≡ lit_true v l
@@ -45,7 +45,7 @@ says_clause v falses h (l ∷ ls) =
     says_literal v l (value_where falses l) (standing falses ls) (any_true v ls)
     (λ e. h l (value_false (has_literal l falses) (has_literal (negate l) falses) e)) (says_clause v falses h ls)
 
--- where the live clauses hold, propagation from false literals refutes nothing
+-- if the live clauses hold, propagation from false literals refutes nothing
 not_refuted : (live : ℕ → Option (List Literal)) (v : Assignment) → ((n : ℕ) (c : List Literal) → live n ≡ Some c → any_true v c ≡ true) →
     (hints : List ℕ) (falses : List Literal) → ((l : Literal) → has_literal l falses ≡ true → lit_true v l ≡ false) → replay live falses hints ≡ Refutes → ⊥
 not_refuted live v holds [] falses h refuted = absurd (cc)

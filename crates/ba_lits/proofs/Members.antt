@@ -1,4 +1,4 @@
--- Literals that stand in a list.
+-- Literals that are in a list.
 
 use Rattle.std.proofs.Common.{◌≡◌, ◌≢◌, ℕ, suc, zero, ◌+◌, ◌*◌, ◌<◌, Bool, true, false, ◌||◌, List, [], ◌∷◌, ◌++◌, length, get_or, set, eqb, cond, refl, sym, ap, subst, ◌∙◌, arith, ◌⊎◌, inl, inr, ⊎_elim}
 use Rattle.std.proofs.lemmas.Bool.{cases_eq, eqb-true, eq-eqb, ne_eqb, or_cases, or_from, or_left, or_right}
@@ -113,7 +113,7 @@ has_literal-push l x (y ∷ ys) has =
     (has_literal-push l x ys rest))
     (or_cases same (has_literal l (ys ++ x ∷ [])) has)
 
--- indices that stand in a list
+-- indices that are in a list
 pub has_literal-is : (l : Literal) (xs : List Literal) → has_literal l xs ≡ has_index (index_of l) xs
 has_literal-is l [] = refl
 has_literal-is l (x ∷ xs) = ap (λ b. eqb (index_of x) (index_of l) || b) (has_literal-is l xs)

@@ -3,7 +3,7 @@
 use Rattle.std.specs.Prelude.{ℕ, List}
 use Rattle.ba_lits.specs.Literals.{Literal}
 
--- so many variables, counted from 1, and the clauses in their order
+-- the number of variables, counted from 1, and the clauses in their order
 pub record Cnf : Type 0 where
   pub variables : ℕ
   pub clauses : List (List Literal)

@@ -13,6 +13,7 @@ pub record Literal : Type 0 where
 abbrev pub positive : ℕ → Literal
 positive variable = record { variable = variable; negated = false }
 
+-- the negated literal of a variable
 abbrev pub negative : ℕ → Literal
 negative variable = record { variable = variable; negated = true }
 
@@ -20,23 +21,23 @@ negative variable = record { variable = variable; negated = true }
 abbrev pub negate : Literal → Literal
 negate l = record { variable = l.variable; negated = not l.negated }
 
--- the place of a literal in a vector with two entries a variable, the positive literal first
+-- the index of a literal in a vector with two entries a variable, the positive literal first
 abbrev pub index_of : Literal → ℕ
 index_of l = 2 * l.variable + (if l.negated then 1 else 0)
 
--- the literal at such a place
+-- the literal of an index
 abbrev pub literal_at : ℕ → Literal
 literal_at n = record { variable = n / 2; negated = eqb (n % 2) 1 }
 
--- what is read past the end of a clause; no clause holds it, since variables are counted from 1
+-- the value read past the end of a clause; no clause holds it, since variables are counted from 1
 abbrev pub no_literal : Literal
 no_literal = record { variable = 0; negated = false }
 
--- the literal at a place of a clause
+-- the literal at an index of a clause
 abbrev pub lit_at : List Literal → ℕ → Literal
 lit_at lits k = get_or lits k no_literal
 
--- a clause over so many variables: its literals have strictly ascending variables from 1 on
+-- a clause over this many variables: its literals have strictly ascending variables from 1 on
 pub record IsClause (variables : ℕ) (lits : List Literal) : Type 0 where
   pub ascends : (j k : ℕ) → j < k → k < length lits → (lit_at lits j).variable < (lit_at lits k).variable
   pub counted : (k : ℕ) → k < length lits → 1 ≤ (lit_at lits k).variable

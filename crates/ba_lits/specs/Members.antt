@@ -3,7 +3,7 @@
 use Rattle.std.specs.Prelude.{◌≡◌, ℕ, Bool, false, ◌||◌, eqb, List, [], ◌∷◌, get_or}
 use Rattle.ba_lits.specs.Literals.{Literal, index_of}
 
--- a literal of this index stands in the list
+-- a literal of this index is in the list
 abbrev pub has_index : ℕ → List Literal → Bool
 has_index k [] = false
 has_index k (x ∷ xs) = eqb (index_of x) k || has_index k xs

@@ -1,4 +1,4 @@
--- When an assignment satisfies clauses, and what it costs.
+-- Satisfaction of clauses by an assignment, and its cost.
 
 use Rattle.std.specs.Prelude.{◌≡◌, ℕ, ◌+◌, ◌-◌, ◌<◌, eqb, Bool, true, false, not, ◌&&◌, ◌||◌, List, [], ◌∷◌, get_or, if◌then◌else◌}
 use Rattle.ba_lits.specs.Literals.{Literal}
@@ -30,7 +30,7 @@ all_true v (c ∷ cs) = any_true v c && all_true v cs
 abbrev pub Soft : Type 0
 Soft = Literal × ℕ
 
--- the weights of the soft literals that are false
+-- the sum of the weights of the false soft literals
 abbrev pub cost : Assignment → List Soft → ℕ
 cost v [] = 0
 cost v (s ∷ ss) = (if lit_true v s.0 then 0 else s.1) + cost v ss
@@ -43,10 +43,10 @@ Agree n v w = (u : ℕ) → u < n → v u ≡ w u
 abbrev pub put : Assignment → ℕ → Bool → Assignment
 put v x b u = if eqb u x then b else v u
 
--- the assignment of a list that has variable x at place x - 1
+-- the assignment of a list that has variable x at index x - 1
 abbrev pub assignment_of : List Bool → Assignment
 assignment_of values x = get_or values (x - 1) false
 
--- 1 where a test holds, and 0 elsewhere
+-- 1 if a test holds, and 0 elsewhere
 abbrev pub one_if : Bool → ℕ
 one_if b = if b then 1 else 0

@@ -5,7 +5,7 @@ ghost use Rattle.ba_lits.specs.Satisfaction.{assignment_of};
 
 use ba_items::Items;
 
-/// An assignment of the variables from 1 on: variable v has the value at v - 1.
+/// An assignment of the variables from 1 on: variable v has the value at index v - 1.
 #[derive(Debug, Drop)]
 pub struct Model {
     /// The values in the order of the variables.

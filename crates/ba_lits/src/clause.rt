@@ -5,7 +5,7 @@ ghost use Rattle.ba_lits.specs.Literals.{IsClause};
 
 use crate::literal::Lit;
 
-/// Whether literals form a clause over so many variables: their variables strictly ascend from 1 on.
+/// Whether literals form a clause over this many variables: their variables strictly ascend from 1 on.
 pub fn is_clause(variables: u64, lits: &[Lit]) -> bool
     ensures { IsTrue result ↔ IsClause variables lits.now }
 {

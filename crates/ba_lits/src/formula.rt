@@ -44,7 +44,7 @@ impl Formula {
 
     /// Adds a variable and gives it.
     ///
-    /// The one error is want of room: there are fewer than 2^62 variables. It leaves the formula as it was.
+    /// The only error is that there would be 2^62 variables. It leaves the formula as it was.
     pub fn fresh(&mut self) -> Result<u64, AllocError>
         ensures ok { IfOk result (λ variable. (variable ≡ self.old.variables + 1)
             × (self.new ≡ record self.old { variables = variable })) }
@@ -59,7 +59,7 @@ impl Formula {
 
     /// Adds a clause at the end.
     ///
-    /// The one error is want of memory, which leaves the formula as it was.
+    /// The only error is out of memory, which leaves the formula as it was.
     pub fn push(&mut self, clause: &[Lit]) -> Result<(), AllocError>
         requires { IsClause self.old.variables clause.now }
         ensures ok { OnOk result (self.new
@@ -85,7 +85,7 @@ impl Formula {
         self.clauses.len() as u64
     }
 
-    /// The literals of the clause of a number.
+    /// The literals of the clause of this number, counted from 1.
     pub fn clause(&self, number: u64) -> &[Lit]
         requires counted { 1 ≤ number }
         requires within { number ≤ length self.now.clauses }

@@ -1,4 +1,5 @@
-//! Literals, clauses, formulas in conjunctive normal form, their models, and sets of literals and of places.
+//! Propositional logic: literals, clauses, formulas in conjunctive normal form, their models, and sets of
+//! literals and of indices.
 #![tactic(auto)]
 
 pub mod assignment;

@@ -7,10 +7,10 @@ use ba_items::TryClone;
 use std::alloc::{AllocError, Global};
 use std::marker::Model;
 
-/// A variable or its negation. Variables are counted from 1 and end below 2^62.
+/// A literal: a variable or its negation. Variables are counted from 1 and are below 2^62.
 #[derive(Clone, Copy, PartialEq, Eq, Debug)]
 pub struct Lit {
-    /// Twice the variable, and 1 more where it is negated.
+    /// Twice the variable, and 1 more if it is negated.
     code: u64,
 }
 
@@ -33,7 +33,7 @@ impl Model for Lit {
 }
 
 impl Lit {
-    /// The literal that is true where the variable is true.
+    /// The literal that is true if the variable is true.
     pub fn positive(variable: u64) -> Lit
         requires counted { 1 ≤ variable }
         requires below { variable < 2 ^ 62 }
@@ -79,8 +79,8 @@ impl Lit {
         self.code % 2 == 1
     }
 
-    /// The literal's place in a vector with two entries a variable: twice the variable, and 1 more where
-    /// it is negated.
+    /// The literal's index in a vector with two entries a variable: twice the variable, and 1 more if it is
+    /// negated.
     pub fn index(self) -> usize
         ensures index { result ≡ index_of self }
         ensures counted { 2 ≤ result }

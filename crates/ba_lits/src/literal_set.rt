@@ -9,8 +9,8 @@ use crate::marks::Marks;
 use std::alloc::{AllocError, Global};
 use std::marker::Model;
 
-/// A set of literals: its members in the order in which they came, and marks at their indices. Contracts see the list
-/// of the members.
+/// A set of literals: its members in the order of their insertion, and marks at their indices. A contract
+/// sees the list of the members.
 #[derive(Drop)]
 pub struct LiteralSet {
     marks: Marks,
@@ -54,7 +54,7 @@ impl LiteralSet {
         self.marks.contains(index)
     }
 
-    /// The value of a literal where the members are false.
+    /// The value of a literal if the members are false.
     pub fn value(&self, lit: Lit) -> Option<bool>
         ensures { result ≡ value_where self.now lit }
     {
@@ -67,9 +67,9 @@ impl LiteralSet {
         }
     }
 
-    /// Makes room for literals with indices below a number.
+    /// Makes room for literals with indices below `indices`.
     ///
-    /// The one error is want of memory.
+    /// The only error is out of memory.
     pub fn grow(&mut self, indices: usize) -> Result<(), AllocError>
         ensures { self.new ≡ self.old }
     {
@@ -78,7 +78,7 @@ impl LiteralSet {
 
     /// Adds a literal.
     ///
-    /// The one error is want of memory, which leaves the set as it was.
+    /// The only error is out of memory, which leaves the set as it was.
     pub fn insert(&mut self, lit: Lit) -> Result<(), AllocError>
         ensures ok { OnOk result (self.new ≡ self.old ++ lit ∷ []) }
         ensures err { OnErr result (self.new ≡ self.old) }
@@ -90,7 +90,7 @@ impl LiteralSet {
         Ok(())
     }
 
-    /// Takes all members out.
+    /// Removes all members.
     pub fn clear(&mut self)
         ensures { self.new ≡ [] }
     {

@@ -1,4 +1,4 @@
-//! Sets of places that are emptied at once.
+//! Sets of indices that are emptied at once.
 
 ghost use Rattle.std.specs.Prelude.{◌≡◌, ℕ, ◌==◌, ◌||◌, ◌<◌, ◌≤◌, ◌^◌, OnOk, OnErr, false, true, length, get_or, set};
 
@@ -6,8 +6,8 @@ use ba_items::fill_up;
 use std::alloc::{AllocError, Global};
 use std::marker::Model;
 
-/// A set of places: those whose stamp is the present one, so that a greater stamp empties the set. Contracts see, for
-/// each place for which there is room, whether it is in the set.
+/// A set of indices: those whose stamp is the present one, so that a greater stamp empties the set. A
+/// contract sees, for each index with room, whether it is in the set.
 #[derive(Drop)]
 pub struct Marks {
     stamps: Vec<u32>,
@@ -36,7 +36,7 @@ impl Marks {
         }
     }
 
-    /// Takes all places out.
+    /// Removes all indices.
     pub fn clear(&mut self)
         ensures { (place : ℕ) → get_or self.new place false ≡ false }
     {
@@ -48,16 +48,16 @@ impl Marks {
         }
     }
 
-    /// Whether a place is in the set.
+    /// Whether an index is in the set.
     pub fn contains(&self, place: usize) -> bool
         ensures { result ≡ get_or self.now place false }
     {
         place < self.stamps.len() && self.stamps[place] == self.stamp
     }
 
-    /// Makes room for places below a number.
+    /// Makes room for indices below a number.
     ///
-    /// The one error is want of memory.
+    /// The only error is out of memory.
     pub fn grow(&mut self, places: usize) -> Result<(), AllocError>
         ensures same { (place : ℕ) → get_or self.new place false ≡ get_or self.old place false }
         ensures room { OnOk result (places ≤ length self.new) }
@@ -65,7 +65,7 @@ impl Marks {
         fill_up(&mut self.stamps, places, 0)
     }
 
-    /// Puts a place for which there is room into the set.
+    /// Adds an index with room.
     pub fn mark(&mut self, place: usize)
         requires { place < length self.old }
         ensures { self.new ≡ set self.old place true }
@@ -73,9 +73,9 @@ impl Marks {
         self.stamps[place] = self.stamp;
     }
 
-    /// Puts a place into the set, and makes room for it.
+    /// Adds an index, and makes room for it.
     ///
-    /// The one error is want of memory, which leaves the members as they were.
+    /// The only error is out of memory, which leaves the members as they were.
     pub fn insert(&mut self, place: usize) -> Result<(), AllocError>
         requires { place < 2 ^ 63 }
         ensures ok { OnOk result ((p : ℕ) → get_or self.new p false

@@ -58,7 +58,7 @@ module _ (free : ℕ → Bool) (initial nodes later : List Node) (dividend rest 
       + digit (second.keeps free (bit_at dividend (31 - i)) named j)) % 2 ^ 32) in
       omega (arith, whole place within none)
 
--- nothing but a divisor of zero fits where the lowest bound is false
+-- nothing but a divisor of zero fits if the lowest bound is false
 pub none_fits : (free : ℕ → Bool) (old new : List Node) (bounds : List Bit) (d n : ℕ) (fits : Bool) →
     Extends old new → AreBitsOf old bounds → IsBounded free old bounds n → fits ≡ nat_le d n
     → truth free new (bit_at bounds 0) ≡ false → fits ≡ true → d ≡ 0
@@ -77,7 +77,7 @@ and_same true true apart = refl
 and_same true false apart = absurd (apart refl refl)
 and_same false b apart = refl
 
--- a place of a word is false where its bound is
+-- a place of a word is false if its bound is
 pub bounded_place : (free : ℕ → Bool) (nodes : List Node) (word bounds : List Bit) (place : ℕ) →
     length word ≡ 32 → place < 32 → IsBounded free nodes bounds (number_of free nodes word)
     → (truth free nodes (bit_at word place) && truth free nodes (bit_at bounds place))

@@ -31,7 +31,7 @@ zeros-places zero place bit is = refl
 zeros-places (suc n) zero bit is = is
 zeros-places (suc n) (suc place) bit is = zeros-places n place bit is
 
--- the lowest bit is written, where it was false
+-- the lowest bit is written, if it was false
 pub number-set_first : (free : ℕ → Bool) (nodes : List Node) (word : List Bit) (bit : Bit) →
     0 < length word → truth free nodes (bit_at word 0) ≡ false
     → number_of free nodes (set word 0 bit) ≡ number_of free nodes word + digit (truth free nodes bit)
@@ -352,7 +352,7 @@ pub number_positive : (free : ℕ → Bool) (nodes : List Node) (word : List Bit
 number_positive free nodes word k long small is =
     omega (arith, pow_pos k, number_above free nodes word k long small is)
 
--- the low places alone, where there are no others
+-- the low places alone, if there are no others
 pub low_whole : (free : ℕ → Bool) (nodes : List Node) (word : List Bit) (n : ℕ) → length word ≡ 32 →
     n ≤ 32 → number_of free nodes word < 2 ^ n → low_number free nodes word n ≡ number_of free nodes word
 low_whole free nodes word n long few small = whole (high_number free nodes word n)

@@ -288,7 +288,7 @@ module _ (p u e s low l r : ℕ) (carry : Bool) (positive : 0 < p) (few : 2 * p 
       let more : 2 * p * suc h ≡ 2 * p * h + 2 * p = mul-suc (2 * p) h in
       omega (arith, digit_small carry)
 
--- a number moved down is below half of what is left of 32 places, where it is not negative
+-- a number moved down is below half of what is left of 32 places, if it is not negative
 module _ (k m : ℕ) (few : k < 32) (small : m < 2 ^ 32) where
   moved_high : 2 ^ 31 ≤ m → 2 ^ (31 - k) ≤ m / 2 ^ k
   moved_high high = le-div (2 ^ (31 - k)) m (2 ^ k) (pow_pos k) (omega (arith, half_power k few))

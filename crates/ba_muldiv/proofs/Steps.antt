@@ -236,7 +236,7 @@ next_twice h d n t positive is = omega (arith, mod_below h d positive, digit_sma
 abbrev pub is_turned : Bool → ℕ → Bool
 is_turned negative low = negative && nat_lt 0 low
 
--- the low places, of this size, with the opposite sign where the condition holds
+-- the low places, of this size, with the opposite sign if the condition holds
 abbrev pub low_opposite : Bool → ℕ → ℕ → ℕ
 low_opposite negative size low = if is_turned negative low then size - low else low
 

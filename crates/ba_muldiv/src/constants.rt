@@ -19,7 +19,7 @@ pub(crate) fn known_bits(word: &Word) -> u32
     known
 }
 
-/// The number of a word, where each of its bits is a constant.
+/// The number of a word, if each of its bits is a constant.
 pub(crate) fn constant_of(word: &Word) -> Option<u32>
     ensures { IfSome result (λ value. (nodes : List Node) (free : ℕ → Bool) →
         number_of free nodes word.now ≡ value) }

@@ -1,4 +1,4 @@
-//! Quotients and remainders, by long division.
+//! Quotients and remainders, by restoring division.
 
 ghost use Rattle.std.specs.Prelude.{◌≡◌, ℕ, ◌+◌, ◌-◌, ◌*◌, ◌/◌, ◌%◌, ◌<◌, ◌≤◌, ◌^◌, ◌==◌, ◌⊎◌, Bool, true, false, not, nat_lt, nat_le, ◌&&◌, List, length, IfOk, if◌then◌else◌};
 ghost use Rattle.std.specs.Bool.{OnTrue};
@@ -14,8 +14,8 @@ use ba_nodes::{Bit, Nodes};
 use ba_words::{Word, add_with_carry, extended, flip, less, moved_up, select, sign_of};
 use std::alloc::AllocError;
 
-/// The quotient of two words, rounded toward zero (C90 6.3.5), by at most 14,500 gates. Where the divisor is zero it
-/// is that of magnitude 2^32 - 1 with the signs' product.
+/// The quotient of two words, rounded towards zero (C90 6.3.5), by at most 14,500 gates. For a divisor of 0
+/// its magnitude is 2^32 - 1, and its sign the product of the signs.
 pub fn div(nodes: &mut Nodes, a: &Word, b: &Word, signed: bool) -> Result<Word, AllocError>
     requires { AreWords nodes.old a.now b.now }
     ensures makes { Computes nodes.old a.now b.now nodes.new result 14500 (quotient_of signed) }
@@ -28,7 +28,7 @@ pub fn div(nodes: &mut Nodes, a: &Word, b: &Word, signed: bool) -> Result<Word, 
     }
 }
 
-/// The quotient of two words, by that of their magnitudes.
+/// The quotient of two words, by their magnitudes.
 fn quotient_by_magnitudes(
     nodes: &mut Nodes,
     a: &Word,
@@ -47,8 +47,8 @@ fn quotient_by_magnitudes(
     negated_where(nodes, negative, &quotient)
 }
 
-/// The remainder of two words, with the sign of the first (C90 6.3.5), by at most 14,500 gates. Where the divisor is
-/// zero it is the dividend.
+/// The remainder of two words, with the sign of the first (C90 6.3.5), by at most 14,500 gates. For a divisor
+/// of 0 it is the dividend.
 pub fn rem(nodes: &mut Nodes, a: &Word, b: &Word, signed: bool) -> Result<Word, AllocError>
     requires { AreWords nodes.old a.now b.now }
     ensures makes { Computes nodes.old a.now b.now nodes.new result 14500 (remainder_of signed) }
@@ -61,7 +61,7 @@ pub fn rem(nodes: &mut Nodes, a: &Word, b: &Word, signed: bool) -> Result<Word, 
     }
 }
 
-/// The remainder of two words, by that of their magnitudes.
+/// The remainder of two words, by their magnitudes.
 fn remainder_by_magnitudes(
     nodes: &mut Nodes,
     a: &Word,
@@ -79,7 +79,7 @@ fn remainder_by_magnitudes(
     negated_where(nodes, sign, &rest)
 }
 
-/// The word, with the opposite sign where the bit is true: then the places above its lowest one are turned.
+/// The word, negated if the bit is true: then the bits above its lowest one are inverted.
 pub(crate) fn negated_where(nodes: &mut Nodes, negative: Bit, a: &Word) -> Result<Word, AllocError>
     requires first { IsBitOf nodes.old negative }
     requires second { AreBitsOf nodes.old a.now }
@@ -106,7 +106,8 @@ fn long_quotient(nodes: &mut Nodes, dividend: &Word, divisor: &Word) -> Result<W
     quotient_by_steps(nodes, dividend, divisor, &above)
 }
 
-/// The quotient of two unsigned words. `above` tells from which places on the divisor has a one.
+/// The quotient of two unsigned words. `above` tells for each index whether the divisor has a one there or
+/// above it.
 fn quotient_by_steps(
     nodes: &mut Nodes,
     dividend: &Word,
@@ -136,7 +137,8 @@ fn long_remainder(nodes: &mut Nodes, dividend: &Word, divisor: &Word) -> Result<
     remainder_by_steps(nodes, dividend, divisor, &above)
 }
 
-/// The remainder of two unsigned words. `above` tells from which places on the divisor has a one.
+/// The remainder of two unsigned words. `above` tells for each index whether the divisor has a one there or
+/// above it.
 fn remainder_by_steps(
     nodes: &mut Nodes,
     dividend: &Word,
@@ -156,9 +158,9 @@ fn remainder_by_steps(
     Ok(left)
 }
 
-/// The quotient and the remainder of all places of the dividend but the lowest, and bounds of the remainder: a place
-/// of it is false where its bound is. Where the highest place of the divisor is known, or the divisor is 0, unit
-/// propagation sees that without them, and all bounds are true.
+/// The quotient and the remainder of all bits of the dividend but the lowest, and bounds of the remainder. A
+/// bit of it is false if its bound is. If the highest bit of the divisor is known, or the divisor is 0, unit
+/// propagation needs no bounds, and all are true.
 fn upper_steps(
     nodes: &mut Nodes,
     dividend: &Word,
@@ -198,7 +200,7 @@ fn upper_steps(
     Ok((quotient, rest, bounds))
 }
 
-/// The bounds of what is left with one more place of the dividend brought down.
+/// The bounds of the partial remainder with one more bit of the dividend brought down.
 fn next_bounds(nodes: &mut Nodes, bounds: &Word, bit: Bit) -> Result<Word, AllocError>
     requires first { AreBitsOf nodes.old bounds.now }
     requires second { IsBitOf nodes.old bit }
@@ -213,8 +215,8 @@ fn next_bounds(nodes: &mut Nodes, bounds: &Word, bit: Bit) -> Result<Word, Alloc
     Ok(brought_down(bounds, some))
 }
 
-/// A step where bounds of what is left are known: unit propagation sees that a place is false where its bound is,
-/// and where the lowest bound is, that a divisor with a true bit doesn't fit.
+/// A step with bounds of the partial remainder. By unit propagation a bit is false if its bound is. If the
+/// lowest bound is false, a divisor with a true bit doesn't fit.
 fn bounded_step(
     nodes: &mut Nodes,
     rest: &Word,
@@ -249,8 +251,8 @@ fn bounded_step(
     Ok((fits, left))
 }
 
-/// The bit again, that tells whether the divisor fits: unit propagation sees that it is false where nothing is left
-/// and a bit of the divisor is true, since only a divisor of zero fits then.
+/// A bit equal to `fits`, which tells whether the divisor fits. By unit propagation it is false if the
+/// partial remainder is 0 and a bit of the divisor is true. Only a divisor of 0 fits then.
 fn fits_into_nonzero(
     nodes: &mut Nodes,
     fits: Bit,
@@ -268,7 +270,7 @@ fn fits_into_nonzero(
     nodes.and(fits, possible)
 }
 
-/// The word again, each place of which is false by unit propagation where its bound is.
+/// The same word; by unit propagation each bit of it is false if its bound is.
 fn bounded(nodes: &mut Nodes, word: &Word, bounds: &Word) -> Result<Word, AllocError>
     requires words { AreWords nodes.old word.now bounds.now }
     requires small { (free : ℕ → Bool)
@@ -282,10 +284,9 @@ fn bounded(nodes: &mut Nodes, word: &Word, bounds: &Word) -> Result<Word, AllocE
     Ok(out)
 }
 
-/// Whether the divisor fits into what is left, of this width, and what is left then. `wider` tells whether the divisor
-/// has more places. Where the width of the
-/// divisor is known, no more places can be left, and only these are subtracted: there is one more at most, and the
-/// divisor fits where it is true.
+/// Whether the divisor fits into the partial remainder of this width, and what is left then. `wider` tells
+/// whether the divisor has more bits. If the width of the divisor is known, only these bits are subtracted.
+/// At most one bit more is there, and the divisor fits if it is true.
 fn step(
     nodes: &mut Nodes,
     rest: &Word,
@@ -326,7 +327,7 @@ fn step(
     Ok((fits, left))
 }
 
-/// How many places the word takes: those above are constant zeros.
+/// The width of the word: the bits above are constant zeros.
 fn width_of(word: &Word) -> usize
     ensures few { result ≤ 32 }
     ensures narrow { (nodes : List Node) (free : ℕ → Bool)
@@ -344,7 +345,7 @@ fn width_of(word: &Word) -> usize
     0
 }
 
-/// How many places the word takes, where its highest one is a constant, and else 32.
+/// The width of the word, if its highest bit is a constant, and else 32.
 fn known_width(word: &Word) -> usize
     ensures few { result ≤ 32 }
     ensures narrow { (nodes : List Node) (free : ℕ → Bool)
@@ -372,7 +373,7 @@ fn least(a: usize, b: usize) -> usize
     if a < b { a } else { b }
 }
 
-/// The bit at a place, and false behind the last.
+/// The bit at an index, and false past the end.
 fn bit_at(word: &Word, place: usize) -> Bit
     ensures { result ≡ bit_at word.now place }
 {
@@ -383,7 +384,7 @@ fn bit_at(word: &Word, place: usize) -> Bit
     }
 }
 
-/// Whether the word has a constant one at this place or above it.
+/// Whether the word has a constant one at this index or above it.
 fn is_surely_wider(word: &Word, width: usize) -> bool
     ensures { OnTrue result ((nodes : List Node) (free : ℕ → Bool) →
         2 ^ width ≤ number_of free nodes word.now) }
@@ -397,7 +398,7 @@ fn is_surely_wider(word: &Word, width: usize) -> bool
     false
 }
 
-/// For each place, whether the word has a one there or above it.
+/// For each index, whether the word has a one there or above it.
 fn ones_from(nodes: &mut Nodes, word: &Word) -> Result<Word, AllocError>
     requires { AreBitsOf nodes.old word.now }
     ensures value { IfOk result (λ above. AreOnesFrom nodes.new word.now above) }
@@ -412,7 +413,7 @@ fn ones_from(nodes: &mut Nodes, word: &Word) -> Result<Word, AllocError>
     Ok(above)
 }
 
-/// The word moved up by one place, with the bit as its lowest.
+/// The word shifted up by one bit, with the given bit as its lowest.
 fn brought_down(word: &Word, bit: Bit) -> Word
     ensures bits { (nodes : List Node) → AreBitsOf nodes word.now → IsBitOf nodes bit
         → AreBitsOf nodes result }

@@ -1,11 +1,14 @@
-//! Circuits of 32-bit words that multiply and divide as C does (C90 6.3.5).
+//! Multipliers and dividers over 32-bit words (C90 6.3.5).
 //!
-//! A product is a sum of shifted words. A constant operand takes one for each of its nonzero bits, or of its nonzero
-//! signed digits where these are fewer; another operand takes a multiple for each of its digits to base 4. A division
-//! is a long division by 32 steps of subtract and select, each over the places that the remainder has by then.
-//! Constants are folded through, so a division of an unsigned word by a constant power of two is a shift; that of a
-//! signed word by a constant power of two, or by its opposite, is made as one. The one error is want of memory, which
-//! leaves every bit its value; further gates may have been added.
+//! A product is a sum of shifted words. A constant factor takes one for each of its nonzero bits, or of its
+//! nonzero signed digits if these are fewer. Another factor takes a multiple for each of its digits to base
+//! 4.
+//!
+//! A division is a restoring division of 32 steps of subtract and select, each over the bits that the
+//! remainder has by then. Constants are folded, so an unsigned division by a constant power of 2 is a shift.
+//! A signed division by such a power or its negation is made as a shift.
+//!
+//! The only error is out of memory. It leaves every bit its value; gates may have been added.
 #![tactic(auto)]
 
 mod constants;

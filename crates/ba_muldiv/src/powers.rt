@@ -1,4 +1,4 @@
-//! Signed divisions by constant powers of two and their opposites, as shifts.
+//! Signed divisions by constant powers of 2 and their negations, as shifts.
 
 ghost use Rattle.std.specs.Prelude.{◌≡◌, ℕ, ◌+◌, ◌/◌, ◌<◌, ◌≤◌, ◌^◌, Bool, true, false, List, length, IfOk, IfSome, OnSome};
 ghost use Rattle.ba_nodes.specs.declared.Bit.{Bit};
@@ -12,7 +12,7 @@ use ba_nodes::{Bit, Nodes};
 use ba_words::{Word, add_with_carry, extended, flip, nonzero};
 use std::alloc::AllocError;
 
-/// A power of two, or the opposite of one, that a signed word of 32 bits can hold.
+/// A power of 2, or its negation, in the range of a signed word of 32 bits.
 #[derive(Clone, Copy)]
 pub(crate) struct SignedPower {
     exponent: usize,
@@ -21,7 +21,7 @@ pub(crate) struct SignedPower {
     ghost in_range: { negative ≡ false → exponent < 31 },
 }
 
-/// The power of two, or its opposite, that a signed word always is.
+/// The power of 2, or its negation, if the word is constant and such a number.
 pub(crate) fn constant_power(word: &Word, signed: bool) -> Option<SignedPower>
     ensures signed { OnSome result (signed ≡ true) }
     ensures number { IfSome result (λ power. (nodes : List Node) (free : ℕ → Bool) →
@@ -33,7 +33,7 @@ pub(crate) fn constant_power(word: &Word, signed: bool) -> Option<SignedPower>
     power_of(constant_of(word)?)
 }
 
-/// The power of two, or its opposite, that a number of 32 bits is, read as signed.
+/// The power of 2, or its negation, if a number of 32 bits is one, read as signed.
 fn power_of(number: u32) -> Option<SignedPower>
     ensures { IfSome result (λ power. number ≡ signed_power power.negative power.exponent) }
 {
@@ -60,9 +60,9 @@ fn exponent_of(number: u32) -> Option<usize>
     }
 }
 
-/// The quotient of a signed word by a power of two or its opposite: rounded down, and one more where the remainder
-/// is negative. By the opposite of a power the complement of the word is moved down, one less than its opposite, and
-/// one is added but where the remainder is negative.
+/// The quotient of a signed word by a power of 2 or its negation. It is rounded down, and one more if the
+/// remainder is negative. For a negated power the complement of the word is shifted, and 1 is added unless
+/// the remainder is negative.
 pub(crate) fn quotient_by_power(
     nodes: &mut Nodes,
     a: &Word,
@@ -81,8 +81,8 @@ pub(crate) fn quotient_by_power(
     }
 }
 
-/// The remainder of a signed word by a power of two or its opposite: the low places of the word, with ones above
-/// them where it is negative.
+/// The remainder of a signed word by a power of 2 or its negation. It is the low bits of the word, with ones
+/// above if it is negative.
 pub(crate) fn remainder_by_power(
     nodes: &mut Nodes,
     a: &Word,
@@ -97,7 +97,7 @@ pub(crate) fn remainder_by_power(
     Ok(extended(a, power.exponent, below))
 }
 
-/// Whether the remainder of a signed word by a power of two is negative: the word is, and one of its low places
+/// Whether the remainder of a signed word by a power of 2 is negative: the word is, and one of its low bits
 /// is true.
 fn has_negative_remainder(nodes: &mut Nodes, a: &Word, exponent: usize) -> Result<Bit, AllocError>
     requires few { exponent < 32 }
@@ -110,7 +110,7 @@ fn has_negative_remainder(nodes: &mut Nodes, a: &Word, exponent: usize) -> Resul
     nodes.and(a[31], some)
 }
 
-/// The word moved down by so many places, with its sign, and the bit added.
+/// The word shifted down by `by` bits, with its sign, and the bit added.
 fn shifted_sum(nodes: &mut Nodes, a: &Word, by: usize, bit: Bit) -> Result<Word, AllocError>
     requires few { by < 32 }
     requires first { AreBitsOf nodes.old a.now }
@@ -119,13 +119,13 @@ fn shifted_sum(nodes: &mut Nodes, a: &Word, by: usize, bit: Bit) -> Result<Word,
         (λ free. shifted_sum (number_of free nodes.old a.now) by (truth free nodes.old bit)) }
 {
     let zero = [Nodes::constant(false); 32];
-    let (sum, _) = add_with_carry(nodes, &upper_places(a, by), &zero, bit)?;
+    let (sum, _) = add_with_carry(nodes, &upper_bits(a, by), &zero, bit)?;
     let sign = nodes.and(a[31], sum[31 - by])?;
     Ok(extended(&sum, 32 - by, sign))
 }
 
-/// The places of the word from this one on, with zeros above them.
-fn upper_places(word: &Word, from: usize) -> Word
+/// The bits of the word from this index on, with zeros above them.
+fn upper_bits(word: &Word, from: usize) -> Word
     requires { from ≤ 32 }
     ensures bits { (nodes : List Node) → AreBitsOf nodes word.now → AreBitsOf nodes result }
     ensures number { (nodes : List Node) (free : ℕ → Bool) →

@@ -14,8 +14,8 @@ use ba_nodes::{Bit, Nodes};
 use ba_words::{Word, add_moved_up, flip, moved_up};
 use std::alloc::AllocError;
 
-/// The product of two words modulo 2^32 (C90 6.3.5), by at most 5,000 gates. Where neither sign is known it is made of
-/// the magnitudes, so that small numbers take few places whatever their signs are.
+/// The product of two words modulo 2^32 (C90 6.3.5), by at most 5,000 gates. If neither sign is known it is
+/// made of the magnitudes, so that small numbers take few bits whatever their signs are.
 pub fn mul(nodes: &mut Nodes, a: &Word, b: &Word) -> Result<Word, AllocError>
     requires { AreWords nodes.old a.now b.now }
     ensures { IsCircuit BinOp.Mul nodes.old a.now b.now nodes.new result 5000
@@ -24,7 +24,7 @@ pub fn mul(nodes: &mut Nodes, a: &Word, b: &Word) -> Result<Word, AllocError>
     any_product(nodes, a, b)
 }
 
-/// The product of two words, by their magnitudes where neither sign is known.
+/// The product of two words, by their magnitudes if neither sign is known.
 fn any_product(nodes: &mut Nodes, a: &Word, b: &Word) -> Result<Word, AllocError>
     requires { AreWords nodes.old a.now b.now }
     ensures { Computes nodes.old a.now b.now nodes.new result 5000 (λ m n. (m * n) % 2 ^ 32) }
@@ -36,7 +36,7 @@ fn any_product(nodes: &mut Nodes, a: &Word, b: &Word) -> Result<Word, AllocError
     }
 }
 
-/// The product of two words, by that of their magnitudes.
+/// The product of two words, by their magnitudes.
 fn product_by_magnitudes(nodes: &mut Nodes, a: &Word, b: &Word) -> Result<Word, AllocError>
     requires { AreWords nodes.old a.now b.now }
     ensures { Computes nodes.old a.now b.now nodes.new result 5000 (λ m n. (m * n) % 2 ^ 32) }
@@ -48,7 +48,7 @@ fn product_by_magnitudes(nodes: &mut Nodes, a: &Word, b: &Word) -> Result<Word, 
     negated_where(nodes, negative, &product)
 }
 
-/// The product of two words as they are: by the digits of a constant one, if there is one.
+/// The product of two words without a look at signs; by the digits of a constant one, if there is one.
 fn plain_product(nodes: &mut Nodes, a: &Word, b: &Word) -> Result<Word, AllocError>
     requires { AreWords nodes.old a.now b.now }
     ensures { Computes nodes.old a.now b.now nodes.new result 4752 (λ m n. (m * n) % 2 ^ 32) }
@@ -62,8 +62,8 @@ fn plain_product(nodes: &mut Nodes, a: &Word, b: &Word) -> Result<Word, AllocErr
     }
 }
 
-/// The product of two words, of which that with more known bits tells by its digits which multiples of the other are
-/// summed.
+/// The product of two words. The digits of the word with more known bits tell which multiples of the other
+/// are summed.
 fn free_product(nodes: &mut Nodes, a: &Word, b: &Word) -> Result<Word, AllocError>
     requires { AreWords nodes.old a.now b.now }
     ensures { Computes nodes.old a.now b.now nodes.new result 4135 (λ m n. (m * n) % 2 ^ 32) }
@@ -92,7 +92,7 @@ fn sum_of_multiples(nodes: &mut Nodes, a: &Word, factor: &Word) -> Result<Word, 
     Ok(sum)
 }
 
-/// The low places of a multiple of a word: by 0, by 1, by 2 or by 3, as two digits say.
+/// The low bits of a multiple of a word, by 0, 1, 2 or 3 as two binary digits say.
 fn multiple(
     nodes: &mut Nodes,
     a: &Word,
@@ -145,7 +145,7 @@ fn some_pair(
     nodes.or(either, z)
 }
 
-/// The product of a word and a constant, which is made by as few sums and differences as its digits allow.
+/// The product of a word and a constant, by as few sums and differences as its digits allow.
 fn constant_product(nodes: &mut Nodes, a: &Word, factor: u32) -> Result<Word, AllocError>
     requires { AreBitsOf nodes.old a.now }
     ensures { MakesWord nodes.old nodes.new result 4752
@@ -155,7 +155,7 @@ fn constant_product(nodes: &mut Nodes, a: &Word, factor: u32) -> Result<Word, Al
     sum_of_rows(nodes, a, factor.wrapping_add(minus), minus)
 }
 
-/// The word times the difference of two numbers, by their digits, from the highest place down.
+/// The word times the difference of two numbers, by their digits, from the highest down.
 fn sum_of_rows(nodes: &mut Nodes, a: &Word, plus: u32, minus: u32) -> Result<Word, AllocError>
     requires { AreBitsOf nodes.old a.now }
     ensures number { IfOk result (λ word. (factor : ℕ) → plus ≡ (factor + minus) % 2 ^ 32 →
@@ -177,8 +177,7 @@ fn sum_of_rows(nodes: &mut Nodes, a: &Word, plus: u32, minus: u32) -> Result<Wor
     Ok(sum)
 }
 
-/// The sum and the word moved up to a place, where the digit to add is one, less that word where the digit to take
-/// away is.
+/// The sum plus the shifted word, if the digit to add is one, or minus it, if the digit to subtract is.
 fn row(
     nodes: &mut Nodes,
     sum: &Word,
@@ -203,7 +202,7 @@ fn row(
     }
 }
 
-/// Whether the number has a one at this place.
+/// Whether the number has a one at this index.
 fn has_one(number: u32, place: usize) -> bool
     requires { place < 32 }
     ensures { digit result ≡ number / 2 ^ place % 2 }
@@ -211,9 +210,9 @@ fn has_one(number: u32, place: usize) -> bool
     (number >> place) % 2 == 1
 }
 
-/// The digits to take away, so that few are left: a constant c is c + c / 2 less c / 2, and where both have the
-/// same digit no word is summed (G. W. Reitwiesner, "Binary arithmetic"). None are taken from a number whose own bits
-/// are as few.
+/// The digits to subtract, so that few are left. A constant c is c + c / 2 minus c / 2, and where both have
+/// the same digit nothing is summed (G. W. Reitwiesner, "Binary arithmetic"). None are subtracted for a
+/// number with as few ones of its own.
 fn taken_digits(factor: u32) -> u32 {
     let half = factor >> 1;
     let signed = factor.wrapping_add(half) ^ half;

@@ -47,7 +47,7 @@ added_before old new node number known sound puts found before =
       | inr more ↦ absurd (more.1 known before)
     ]
 
--- a node is counted where the list grew
+-- a node is counted if the list grew
 pub added_gates : (old new : List Node) (node : Node) (count more : ℕ) → Puts old node new → count ≡ gates_in old → more ≡ (if nat_lt (length old) (length new) then weight node else 0) → count + more ≡ gates_in new
 added_gates old new node count more puts counted is =
     elim puts [
@@ -75,7 +75,7 @@ pub free_gates : (old new : List Node) → Puts old (Free (length old)) new → 
 free_gates old new puts =
     elim puts [ inl same ↦ ap gates_in same | inr more ↦ ap gates_in more.0 ∙ gates-push old (Free (length old)) ∙ omega arith ]
 
--- a gate stands in one order of its bits
+-- a gate is in one order of its bits
 pub gate_in_order : (old new : List Node) (number : ℕ) (a b : Bit) → Extends old new → AreOrdered new → a.index < b.index → IsGateOf old number a b → slice_get old number ≡ Some (And a b)
 gate_in_order old new number a b extends sound below gate =
     elim gate [

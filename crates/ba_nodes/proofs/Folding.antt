@@ -43,7 +43,7 @@ truth-opposed free nodes a b same differ =
     by_cases false true t differ = refl
     by_cases false false t differ = absurd (cc)
 
--- a bit that was there, where nothing was added
+-- a bit that was there, if nothing was added
 pub makes_old : (nodes : List Node) (bit : Bit) (gates : ℕ) (meaning : (ℕ → Bool) → Bool) → IsBitOf nodes bit → ((free : ℕ → Bool) → truth free nodes bit ≡ meaning free) → MakesBit nodes nodes (Ok bit) gates meaning
 makes_old nodes bit gates meaning is_bit holds = record { value = record { is_bit = is_bit; holds = holds }; grows = Grows_refl nodes gates }
 

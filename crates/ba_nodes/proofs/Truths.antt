@@ -32,7 +32,7 @@ values-append : (free : ℕ → Bool) (old more : List Node) → values_of free 
 unfolding values_of
 values-append free old more = fold-append (step free) (false ∷ []) old more
 
--- nodes added behind leave a bit its value
+-- nodes added after leave a bit its value
 pub truth-append : (free : ℕ → Bool) (old more : List Node) (bit : Bit) → IsBitOf old bit → truth free (old ++ more) bit ≡ truth free old bit
 unfolding truth
 truth-append free old more bit named =
@@ -122,7 +122,7 @@ split_at nodes number node found =
     ∙ ap (λ rest. take number nodes ++ rest) (drop_more nodes number node within ∙ ap (λ x. x ∷ drop (number + 1) nodes) here)
     ∙ sym (append_assoc (take number nodes) (node ∷ []) (drop (number + 1) nodes))
 
--- the nodes that a node names stand before it
+-- the nodes that a node names are before it
 pub node_truth-append : (free : ℕ → Bool) (old more : List Node) (node : Node) → MayStandAt (length old) node → node_truth free (old ++ more) node ≡ node_truth free old node
 node_truth-append free old more (Free number) may = refl
 node_truth-append free old more (And a b) may =

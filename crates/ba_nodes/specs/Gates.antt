@@ -1,5 +1,5 @@
--- Gates over free bits, and what they mean: under each assignment of the free bits every node and
--- every bit has a truth value. An assignment gives a free bit its value by the number of its node.
+-- Gates over free bits, and their truth values. Under each assignment of the free bits every node and every
+-- bit has a truth value. An assignment gives a free bit its value by the number of its node.
 
 use Rattle.std.specs.Prelude.{◌≡◌, ℕ, ◌+◌, ◌<◌, ◌≤◌, ◌==◌, Bool, true, false, not, ◌&&◌, ◌||◌, ◌≢◌, List, [], ◌∷◌, ◌++◌, length, fold, Option, Some, None, slice_get, slice_index_or, sum_by, if◌then◌else◌, ◌⊎◌, IsNone, Result, IfOk}
 use Rattle.std.specs.declared.alloc.AllocError.{AllocError}
@@ -12,7 +12,7 @@ abbrev pub bool_xor : Bool → Bool → Bool
 bool_xor true b = not b
 bool_xor false b = b
 
--- what at least two of the three are
+-- the value of at least two of the three
 abbrev pub bool_majority : Bool → Bool → Bool → Bool
 bool_majority true b c = b || c
 bool_majority false b c = b && c
@@ -33,6 +33,7 @@ opposite bit = record { index = bit.index; negated = not bit.negated }
 abbrev pub value_in : List Bool → Bit → Bool
 value_in values bit = bool_xor bit.negated (slice_index_or values bit.index false)
 
+-- the value of a node, by those of the earlier nodes
 abbrev pub node_value : (ℕ → Bool) → List Bool → Node → Bool
 node_value free values (Free number) = free number
 node_value free values (And a b) = value_in values a && value_in values b
@@ -56,7 +57,7 @@ node_truth free nodes (Xor a b) = bool_xor (truth free nodes a) (truth free node
 node_truth free nodes (Mux a b c) = if truth free nodes a then truth free nodes b else truth free nodes c
 node_truth free nodes (Majority a b c) = bool_majority (truth free nodes a) (truth free nodes b) (truth free nodes c)
 
--- the bit names the constant or one of the nodes
+-- the bit is the constant or of one of the nodes
 abbrev pub IsBitOf : List Node → Bit → Type 0
 IsBitOf nodes bit = bit.index ≤ length nodes
 
@@ -81,8 +82,8 @@ pub record AreApart (number : ℕ) (a b c : Bit) : Type 0 where
   pub first_third : a.index ≢ c.index
   pub second_third : b.index ≢ c.index
 
--- a node may have this number: a free bit names itself, a gate names different earlier nodes, in their order
--- where the order of its bits is free
+-- A node may have this number. A free bit names itself. A gate names different earlier nodes, in ascending
+-- order if the order of its bits is free.
 abbrev pub MayStandAt : ℕ → Node → Type 0
 MayStandAt number (Free own) = own ≡ number
 MayStandAt number (And a b) = (0 < a.index) × (a.index < b.index) × (b.index ≤ number)
@@ -90,7 +91,7 @@ MayStandAt number (Xor a b) = (0 < a.index) × (a.index < b.index) × (b.index �
 MayStandAt number (Mux a b c) = AreApart number a b c
 MayStandAt number (Majority a b c) = (0 < a.index) × (a.index < b.index) × (b.index < c.index) × (c.index ≤ number)
 
--- each node stands behind the nodes that it names, and no two nodes are the same
+-- each node is after the nodes that it names, and no two nodes are the same
 pub record AreOrdered (nodes : List Node) : Type 0 where
   pub ordered : (number : ℕ) (node : Node) → slice_get nodes number ≡ Some node → MayStandAt number node
   pub distinct : (number other : ℕ) (node : Node) → slice_get nodes number ≡ Some node → slice_get nodes other ≡ Some node → number ≡ other
@@ -99,7 +100,7 @@ pub record AreOrdered (nodes : List Node) : Type 0 where
 abbrev pub IsGateOf : List Node → ℕ → Bit → Bit → Type 0
 IsGateOf nodes number a b = (slice_get nodes number ≡ Some (And a b)) ⊎ (slice_get nodes number ≡ Some (And b a))
 
--- the bit that an `and` gives where a constant, or equal or opposite bits, leave no need of a gate
+-- the bit of an `and` that needs no gate: of a constant, or of equal or opposite bits
 abbrev pub folded : Bit → Bit → Option Bit
 folded a b =
     if a.index == 0 then Some (if a.negated then b else a)
@@ -107,17 +108,17 @@ folded a b =
     else if a.index == b.index then Some (if bool_xor a.negated b.negated then constant_bit false else a)
     else None
 
--- the bit is the `and` of a pair among these nodes: that of constants, equal or opposite bits, or a gate
+-- the bit is the `and` of two bits among these nodes, with a gate or without
 unfoldable pub IsMade : List Node → Bit → Bit → Bit → Type 0
 IsMade nodes a b bit = (folded a b ≡ Some bit) ⊎ (IsNone (folded a b) × ((number : ℕ) × (bit ≡ node_bit number) × IsGateOf nodes number a b))
 
--- new nodes were added behind the old ones, and every old bit has its value
+-- new nodes were added, and every old bit has its old value
 pub record Extends (old new : List Node) : Type 0 where
   pub grows : length old ≤ length new
   pub stays : (number : ℕ) → number < length old → slice_get new number ≡ slice_get old number
   pub keeps : (free : ℕ → Bool) (bit : Bit) → IsBitOf old bit → truth free new bit ≡ truth free old bit
 
--- nodes were added behind the old ones that count as at most so many gates
+-- nodes were added that count as at most this many gates
 pub record Grows (old new : List Node) (gates : ℕ) : Type 0 where
   pub extends : Extends old new
   pub count : gates_in new ≤ gates_in old + gates
@@ -127,7 +128,7 @@ pub record HasValue (nodes : List Node) (bit : Bit) (value : (ℕ → Bool) → 
   pub is_bit : IsBitOf nodes bit
   pub holds : (free : ℕ → Bool) → truth free nodes bit ≡ value free
 
--- a call gives a bit that has this value, by at most so many gates: where memory runs out the nodes grow no more
+-- a call gives a bit of this value, by at most this many gates, also if memory runs out
 pub record MakesBit (old new : List Node) (result : Result Bit AllocError) (gates : ℕ) (meaning : (ℕ → Bool) → Bool) : Type 0 where
   pub value : IfOk result (λ bit. HasValue new bit meaning)
   pub grows : Grows old new gates
@@ -136,6 +137,6 @@ pub record MakesBit (old new : List Node) (result : Result Bit AllocError) (gate
 abbrev pub IsAbsent : List Node → Node → Type 0
 IsAbsent nodes node = (number : ℕ) → slice_get nodes number ≡ Some node → ⊥
 
--- the node was among them, or it was not and stands behind them
+-- the node was among them, or was added at the end
 abbrev pub Puts : List Node → Node → List Node → Type 0
 Puts old node new = (new ≡ old) ⊎ ((new ≡ old ++ node ∷ []) × IsAbsent old node)

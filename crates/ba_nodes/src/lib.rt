@@ -1,10 +1,11 @@
-//! Gates over free bits, with equal gates made once.
+//! An and-inverter graph with structural hashing, with further kinds of gates. Source: A. Kuehlmann, V.
+//! Paruthi, F. Krohm and M. K. Ganai, "Robust Boolean reasoning for equivalence checking and functional
+//! property verification".
 //!
-//! A [`Nodes`] is an and-inverter graph (A. Kuehlmann, V. Paruthi, F. Krohm and M. K. Ganai, "Robust Boolean
-//! reasoning for equivalence checking and functional property verification") with further kinds of gates: each
-//! node is a free bit, or the `and`, the exclusive `or`, the choice or the majority of earlier bits, and a
-//! negation is a flag of the bit that names a node. Constants, equal bits and opposite bits are folded, and
-//! negations and the order of operands are moved out of a gate where they can be, so that equal ones are met.
+//! Each node of a [`Nodes`] is a free bit, or the `and`, the exclusive `or`, the choice or the majority of
+//! earlier bits. A negation is a flag of the bit that names a node. Constants, equal bits and opposite bits
+//! are folded. Negations and the order of operands are moved out of a gate if possible, so that equal gates
+//! are found.
 #![tactic(auto)]
 
 ghost use Rattle.std.specs.Prelude.{◌≡◌, ℕ, ◌+◌, ◌<◌, ◌≤◌, ◌^◌, ◌⊎◌, ◌==◌, ◌≢◌, Bool, true, false, not, ◌&&◌, ◌||◌, List, [], ◌∷◌, ◌++◌, length, slice_get, IfOk, OnOk, OnErr, IfSome, IsNone, Ok, Some, if◌then◌else◌};
@@ -18,7 +19,7 @@ use std::marker::Model;
 
 /// A bit of a [`Nodes`]: a constant, or a node as it is or negated.
 ///
-/// Index 0 is the constant: false as it is, true where it is negated. Index k + 1 is node number k.
+/// Index 0 is the constant: false as it is, true if it is negated. Index k + 1 is node number k.
 #[derive(Clone, Copy, Debug, PartialEq, Eq, Hash)]
 pub struct Bit {
     pub index: u32,
@@ -30,17 +31,17 @@ pub struct Bit {
 pub enum Node {
     /// A free bit of this number.
     Free(u32),
-    /// True where both are.
+    /// True if both are.
     And(Bit, Bit),
-    /// True where just one of the two is.
+    /// True if just one of the two is.
     Xor(Bit, Bit),
-    /// The value of the second where the first is true, and else that of the third.
+    /// The value of the second if the first is true, and else that of the third.
     Mux(Bit, Bit, Bit),
-    /// True where at least two of the three are.
+    /// True if at least two of the three are.
     Majority(Bit, Bit, Bit),
 }
 
-/// The nodes in their order. Contracts see the list of the nodes.
+/// The nodes in their order. A contract sees the list of the nodes.
 pub struct Nodes {
     nodes: IndexSet<Node>,
     gates: u64,
@@ -67,7 +68,7 @@ impl Model for Nodes {
 }
 
 impl Nodes {
-    /// No node at all. It takes no memory.
+    /// No nodes. It takes no memory.
     pub fn new(alloc: Global) -> Nodes
         ensures { result ≡ [] }
     {
@@ -101,16 +102,16 @@ impl Nodes {
         }
     }
 
-    /// How many gates there are, counted as and-gates: an `and` counts one, an exclusive `or`, a choice or a
-    /// majority three, and a free bit nothing. It takes no memory.
+    /// How many gates there are, counted as and-gates. An `and` counts one, an exclusive `or`, a choice or a
+    /// majority three, a free bit none. It takes no memory.
     pub fn count(&self) -> u64
         ensures { result ≡ gates_in self.now }
     {
         self.gates
     }
 
-    /// The nodes in their order: a gate names nodes before it, and no two nodes are the same. The value of
-    /// each is that of a bit ([`node_law`]). It takes no memory.
+    /// The nodes in their order. A gate names earlier nodes, and no two nodes are the same. The bit of a node
+    /// has the node's value ([`node_law`]). It takes no memory.
     pub fn as_slice(&self) -> &[Node]
         ensures nodes { result.now ≡ self.now }
         ensures ordered { AreOrdered self.now }
@@ -119,9 +120,9 @@ impl Nodes {
         self.nodes.as_slice()
     }
 
-    /// A new free bit, whose value under an assignment is the one of its node's number.
+    /// A new free bit, whose value an assignment gives by its node's number.
     ///
-    /// The one error is want of memory, which leaves the nodes as they were.
+    /// The only error is out of memory, which leaves the nodes as they were.
     pub fn free(&mut self) -> Result<Bit, AllocError>
         ensures bit { IfOk result (λ bit. bit ≡ node_bit (length self.old)) }
         ensures value { IfOk result (λ bit.
@@ -134,10 +135,10 @@ impl Nodes {
         self.add(Node::Free(number))
     }
 
-    /// The bit that is true where `a` and `b` both are, by at most one new gate. What was made of the same two
-    /// bits before, in either order, is found again; constants, equal bits and opposite bits need no gate.
+    /// The bit that is true if `a` and `b` both are, by at most one new gate. A gate of the same two bits is
+    /// found again, in either order. Constants, equal bits and opposite bits need no gate.
     ///
-    /// The one error is want of memory, which leaves the nodes as they were.
+    /// The only error is out of memory, which leaves the nodes as they were.
     pub fn and(&mut self, a: Bit, b: Bit) -> Result<Bit, AllocError>
         requires first { IsBitOf self.old a }
         requires second { IsBitOf self.old b }
@@ -154,9 +155,9 @@ impl Nodes {
         }
     }
 
-    /// The bit that is true where one of `a` and `b` is, by at most one new gate.
+    /// The bit that is true if one of `a` and `b` is, by at most one new gate.
     ///
-    /// The one error is want of memory, which leaves the nodes as they were.
+    /// The only error is out of memory, which leaves the nodes as they were.
     pub fn or(&mut self, a: Bit, b: Bit) -> Result<Bit, AllocError>
         requires first { IsBitOf self.old a }
         requires second { IsBitOf self.old b }
@@ -168,9 +169,9 @@ impl Nodes {
         Ok(Nodes::not(neither))
     }
 
-    /// The bit that is true where just one of `a` and `b` is, by at most one new gate, which counts three.
+    /// The bit that is true if exactly one of `a` and `b` is, by at most one new gate, which counts three.
     ///
-    /// The one error is want of memory, which leaves the nodes as they were.
+    /// The only error is out of memory, which leaves the nodes as they were.
     pub fn xor(&mut self, a: Bit, b: Bit) -> Result<Bit, AllocError>
         requires first { IsBitOf self.old a }
         requires second { IsBitOf self.old b }
@@ -191,10 +192,10 @@ impl Nodes {
         Ok(negated_if(negated_if(gate, a.negated), b.negated))
     }
 
-    /// The bit that has the value of `yes` where `which` is true, and else that of `no`, by at most one new gate, which
-    /// counts three.
+    /// The value of `yes` if `which` is true, and else that of `no`, by at most one new gate, which counts
+    /// three.
     ///
-    /// The one error is want of memory, which leaves the nodes as they were.
+    /// The only error is out of memory, which leaves the nodes as they were.
     pub fn mux(&mut self, which: Bit, yes: Bit, no: Bit) -> Result<Bit, AllocError>
         requires chooser { IsBitOf self.old which }
         requires first { IsBitOf self.old yes }
@@ -212,9 +213,9 @@ impl Nodes {
         self.choice(which, on, off)
     }
 
-    /// The bit that is true where at least two of the three are, by at most one new gate, which counts three.
+    /// The bit that is true if at least two of the three are, by at most one new gate, which counts three.
     ///
-    /// The one error is want of memory, which leaves the nodes as they were.
+    /// The only error is out of memory, which leaves the nodes as they were.
     pub fn majority(&mut self, a: Bit, b: Bit, c: Bit) -> Result<Bit, AllocError>
         requires first { IsBitOf self.old a }
         requires second { IsBitOf self.old b }
@@ -230,7 +231,7 @@ impl Nodes {
         self.majority_above(a, b, c)
     }
 
-    /// The majority of three bits, of which the first two are in order.
+    /// The majority of three bits, the first two of which are in order.
     fn majority_above(&mut self, a: Bit, b: Bit, c: Bit) -> Result<Bit, AllocError>
         requires first { IsBitOf self.old a }
         requires second { IsBitOf self.old b }
@@ -296,7 +297,7 @@ impl Nodes {
         }
     }
 
-    /// The choice between two bits that are not of the node that chooses.
+    /// The choice between two bits of other nodes than that of `which`.
     fn choice(&mut self, which: Bit, yes: Bit, no: Bit) -> Result<Bit, AllocError>
         requires chooser { IsBitOf self.old which }
         requires first { IsBitOf self.old yes }
@@ -342,7 +343,7 @@ impl Nodes {
         self.xor(which, no)
     }
 
-    /// The bit that has the value `value` where `which` is true, and else that of `other`.
+    /// `value` if `which` is true, and else the value of `other`.
     fn unless(&mut self, which: Bit, value: bool, other: Bit) -> Result<Bit, AllocError>
         requires first { IsBitOf self.old which }
         requires second { IsBitOf self.old other }
@@ -357,7 +358,8 @@ impl Nodes {
         }
     }
 
-    /// The gate that chooses between bits of other nodes. Where `yes` is negated the gate is negated as a whole.
+    /// The gate that chooses between bits of other nodes. If `yes` is negated, the whole gate is negated
+    /// instead.
     fn mux_gate(&mut self, which: Bit, yes: Bit, no: Bit) -> Result<Bit, AllocError>
         requires chooser { (0 < which.index) × IsBitOf self.old which }
         requires first { (0 < yes.index) × IsBitOf self.old yes }
@@ -391,7 +393,7 @@ impl Nodes {
         }
     }
 
-    /// The gate of two bits that need one.
+    /// The `and` of two bits that need a gate.
     fn gate(&mut self, a: Bit, b: Bit) -> Result<Bit, AllocError>
         requires first { IsBitOf self.old a }
         requires second { IsBitOf self.old b }
@@ -411,7 +413,7 @@ impl Nodes {
         }
     }
 
-    /// The bit of a node, which is put behind the others where it is not among them.
+    /// The bit of a node, which is added if it is not there.
     fn add(&mut self, node: Node) -> Result<Bit, AllocError>
         requires { MayStandAt (length self.old) node }
         ensures ordered { AreOrdered self.new }
@@ -430,7 +432,7 @@ impl Nodes {
         Ok(bit_of(number))
     }
 
-    /// The number of the next node, where it can have one.
+    /// The number of the next node, if there is one left.
     fn next_number(&self) -> Result<u32, AllocError>
         ensures { IfOk result (λ number. number ≡ length self.now) }
     {
@@ -443,7 +445,7 @@ impl Nodes {
 }
 
 impl Node {
-    /// How many gates there are more, counted as and-gates, where the node was added or not.
+    /// How many gates more there are, counted as and-gates, after the node was added or found.
     fn gates_more(&self, added: bool) -> u64
         ensures { result ≡ (if added then weight self.now else 0) }
     {
@@ -458,15 +460,15 @@ impl Node {
     }
 }
 
-/// Law: among nodes in their order, as [`Nodes::as_slice`] gives them, the bit of a node has the node's value
-/// by the values of the bits that it names.
+/// Law: among the nodes that [`Nodes::as_slice`] gives, the bit of a node has the node's value. That follows
+/// from the values of the bits that the node names.
 pub fn node_law()
     ensures { (free : ℕ → Bool) (nodes : List Node) (number : ℕ) (node : Node) →
         AreOrdered nodes → slice_get nodes number ≡ Some node →
         truth free nodes (node_bit number) ≡ node_truth free nodes node }
 {}
 
-/// Law: what was added behind what was added is added, and an `and` that was made is found among later nodes, and
+/// Law: nodes added later extend all earlier ones. An `and` that was made is found among later nodes, also
 /// with its bits in the other order.
 pub fn extension_law()
     ensures through { (old middle new : List Node) → Extends old middle → Extends middle new
@@ -477,7 +479,7 @@ pub fn extension_law()
         → IsMade nodes b a bit }
 {}
 
-/// The bit, negated where `negated` is true.
+/// The bit, negated if `negated` is true.
 fn negated_if(bit: Bit, negated: bool) -> Bit
     ensures index { result.index ≡ bit.index }
     ensures value { (nodes : List Node) (free : ℕ → Bool) → truth free nodes result
@@ -486,7 +488,7 @@ fn negated_if(bit: Bit, negated: bool) -> Bit
     if negated { Nodes::not(bit) } else { bit }
 }
 
-/// What is known of `bit` where `which` is true: a constant, where both are of one node.
+/// What `bit` is if `which` is true: a constant, if both are of one node.
 fn given(bit: Bit, which: Bit) -> Bit
     requires { 0 < which.index }
     ensures apart { which.index ≢ result.index }
@@ -508,7 +510,7 @@ fn two_of(a: bool, b: bool, c: bool) -> bool
     if a { b || c } else { b && c }
 }
 
-/// The bit that an `and` of `a` and `b` gives without a gate, if it needs none.
+/// The bit of the `and` of `a` and `b` that needs no gate, if there is one.
 fn folded(a: Bit, b: Bit) -> Option<Bit>
     ensures { result ≡ folded a b }
 {
@@ -525,7 +527,7 @@ fn folded(a: Bit, b: Bit) -> Option<Bit>
     Some(if opposite { Nodes::constant(false) } else { a })
 }
 
-/// The number of the node, which is put behind the others where it is not among them.
+/// The number of the node, which is added if it is not there.
 fn put(nodes: &mut IndexSet<Node>, node: Node) -> Result<usize, AllocError>
     requires { length nodes.old.keys < 2 ^ 32 }
     ensures ok { IfOk result (λ number. (slice_get nodes.new.keys number ≡ Some node)

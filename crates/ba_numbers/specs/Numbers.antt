@@ -1,6 +1,7 @@
 -- The numbers of C (C90 6.1.2.5, 6.2.1, 6.3) in this profile: two's complement, arithmetic that wraps,
--- division towards zero. The value of an operator is plain arithmetic on whole numbers, and then the
--- number of the type's range that is congruent to it modulo 2 to the type's width.
+-- division towards zero. An operator's value is plain arithmetic on whole numbers, converted to the
+-- operator's type. The conversion takes the number of the type's range that is congruent modulo 2 to the
+-- type's width.
 
 use Rattle.std.specs.Prelude.{◌≡◌, ℕ, ◌*◌, ◌^◌, ◌%◌, ℤ, pos, neg_ℤ, ◌+ℤ◌, ◌-ℤ◌, ◌*ℤ◌, ◌≤ℤ◌, Bool, true, false, not, cond, ◌&&◌, Option, None, Some, bit_and, bit_or, bit_xor, int_div, int_rem, int_lt, int_le, unsigned_abs}
 use Rattle.std.specs.Int.{int_rem_euclid, int_div_euclid}
@@ -21,6 +22,7 @@ least_of U16 = pos 0
 least_of I32 = neg_ℤ (pos 0x80000000)
 least_of U32 = pos 0
 
+-- the greatest value of a type
 abbrev pub greatest_of : CType → ℤ
 greatest_of I8 = pos 0x7f
 greatest_of U8 = pos 0xff
@@ -112,6 +114,7 @@ compares Eq = true
 compares Ne = true
 compares _ = false
 
+-- a value converted to the type, if there is one
 abbrev pub converted_value : CType → Option ℤ → Option ℤ
 converted_value t None = None
 converted_value t (Some z) = Some (converted t z)

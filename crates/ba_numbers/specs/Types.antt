@@ -9,6 +9,7 @@ use Rattle.ba_numbers.specs.declared.numbers.CType.TheVariants.{I8, U8, I16, U16
 use Rattle.ba_numbers.specs.declared.numbers.UnOp.{UnOp}
 use Rattle.ba_numbers.specs.declared.numbers.UnOp.TheVariants.{IsZero}
 
+-- both are the same type
 abbrev pub same_type : CType → CType → Bool
 same_type I8 I8 = true
 same_type U8 U8 = true
@@ -30,6 +31,7 @@ is_promoted _ = false
 abbrev pub promoted : CType → CType
 promoted t = cond (is_promoted t) t I32
 
+-- the type is `unsigned int` (or `unsigned long`)
 abbrev pub is_u32 : CType → Bool
 is_u32 U32 = true
 is_u32 _ = false
@@ -40,6 +42,7 @@ usual s t = cond (is_u32 s || is_u32 t) U32 I32
 
 -- OPERATORS (C90 6.3)
 
+-- the operator is a shift
 abbrev pub shifts : BinOp → Bool
 shifts Shl = true
 shifts Shr = true
@@ -57,6 +60,7 @@ right_type op s t = cond (shifts op) (promoted t) (usual s t)
 abbrev pub type_of_binary : BinOp → CType → CType
 type_of_binary op t = cond (compares op) I32 t
 
+-- the type of a unary operator on a promoted operand
 abbrev pub type_of_unary : UnOp → CType → CType
 type_of_unary IsZero t = I32
 type_of_unary _ t = t

@@ -7,10 +7,14 @@ ghost use Rattle.ba_numbers.specs.declared.numbers.BinOp.{BinOp};
 ghost use Rattle.ba_numbers.specs.declared.numbers.UnOp.{UnOp};
 ghost use Rattle.ba_numbers.specs.Numbers.{IsIn, is_in, IsCongruent, width_of, centred, converted, plain_value, value_of, value_of_one, divides, compares, count_of, low_word};
 
-/// A type of whole numbers: signed (`I`) or unsigned (`U`), with its width in bits.
+/// A type of whole numbers: signed (`I`) or unsigned (`U`), with its width in bits (C90 6.1.2.5).
 ///
-/// In this profile `char` and `signed char` are `I8`, `unsigned char` is `U8`, `short` is `I16`,
-/// `unsigned short` is `U16`, `int` and `long` are `I32`, `unsigned` and `unsigned long` are `U32`.
+/// - `I8`: `char` and `signed char`.
+/// - `U8`: `unsigned char`.
+/// - `I16`: `short`.
+/// - `U16`: `unsigned short`.
+/// - `I32`: `int` and `long`.
+/// - `U32`: `unsigned` and `unsigned long`.
 #[derive(Clone, Copy, Debug, PartialEq, Eq)]
 pub enum CType {
     I8,
@@ -76,11 +80,11 @@ pub fn convert(t: CType, value: i64) -> i64
     reduced(t, i128::from(value))
 }
 
-/// The value of a binary operator that works in the type `t` (C90 6.3.5 to 6.3.12): plain arithmetic on
-/// whole numbers, and then the conversion to `t`. A shift goes by the low five bits of its count, a right
-/// shift rounds down, and a division rounds towards zero.
+/// The value of a binary operator that works in the type `t` (C90 6.3.5 to 6.3.12): plain arithmetic on whole
+/// numbers, converted to `t`. The count of a shift is its low five bits, a right shift rounds down, and a
+/// division rounds towards zero.
 ///
-/// `None` comes exactly for `Div` and `Rem` with `b` equal to 0. It takes no memory.
+/// `None` comes exactly if `op` is `Div` or `Rem` and `b` is 0. It takes no memory.
 #[tactic(auto, unfolding(crate::specs::Numbers::value_of))]
 pub fn apply(op: BinOp, t: CType, a: i64, b: i64) -> Option<i64>
     ensures value { result ≡ value_of op t a b }
@@ -105,8 +109,8 @@ pub fn apply_one(op: UnOp, t: CType, a: i64) -> i64
     }
 }
 
-/// Law: the conversion of a number is the one number of the type's range that is congruent to it modulo 2
-/// to the type's width. So a number of the range is its own conversion.
+/// Law: the conversion of a number is the only number of the type's range that is congruent to it modulo 2 to
+/// the type's width. So a number of the range is its own conversion.
 pub fn conversion_law()
     ensures in_range { (t : CType) (number : ℤ) → IsIn t (converted t number) }
     ensures congruent { (t : CType) (number : ℤ)
@@ -211,7 +215,7 @@ fn quotient(a: i64, b: i64) -> Option<i128>
     Some(i128::from(a) / i128::from(b))
 }
 
-/// What is left of `a` by that quotient, `None` for a zero divisor.
+/// The remainder of that quotient, `None` for a zero divisor.
 fn remainder(a: i64, b: i64) -> Option<i128>
     ensures value { result ≡ plain_value BinOp.Rem a b }
     ensures small { IfSome result (λ value. unsigned_abs value ≤ 2 ^ 126) }

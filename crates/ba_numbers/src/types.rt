@@ -12,7 +12,7 @@ pub fn same_type(s: CType, t: CType) -> bool
     s == t
 }
 
-/// Whether the type is one that the integral promotions give: operators work in such a type (C90 6.2.1.1).
+/// Whether the integral promotions give this type (C90 6.2.1.1). Operators work in such types.
 pub fn is_promoted(t: CType) -> bool
     ensures { result ≡ is_promoted t }
 {

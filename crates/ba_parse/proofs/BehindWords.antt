@@ -1,4 +1,4 @@
--- What follows the words of a type: behind `enum` its tag, or what may stand for it, and the words that are
+-- What follows the words of a type: after `enum` its tag, or what may stand for it, and the words that are
 -- still to come.
 
 use Rattle.std.proofs.Common.{◌≡◌, ℕ, Bool, true, false, not, ◌&&◌, if◌then◌else◌, List, refl}

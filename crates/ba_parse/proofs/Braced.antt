@@ -70,7 +70,7 @@ ByHead test = (us ts : List Token) → head_of us ≡ head_of ts → test us ≡
 stays_by : (test : List Token → Bool) → ByHead test → (ts rest : List Token) → Stays test ts rest
 stays_by test by ts rest u us cut h = by (u ++ us) (u ++ rest) (head_after u us rest h) ∙ ap test (sym cut)
 
--- one or the other part, where such a test decides
+-- one or the other part, if such a test decides
 choice : (n : ℕ) (a b : Part) (test : List Token → Bool) (r s : Reading) → ByHead test → (ts : List Token)
     (x : Bool) → test ts ≡ x →
     (x ≡ true → Taken n a r ts (r ts)) → (x ≡ false → Taken n b s ts (s ts)) →
@@ -100,8 +100,8 @@ comma_token = record { kind = kind.Punct punct.Comma; at = record { line = 0; co
 abbrev comma_example : Example comma
 comma_example = record { one = comma_token; is_one = refl; calm = refl }
 
--- What shows, behind a comma, whether another item comes. Where an item begins one comes, and where the end
--- begins none; nor does one where the end is empty, before what can't go on with the list.
+-- What shows, after a comma, whether another item comes. If an item begins here one comes, and none if the
+-- end begins here. None comes if the end is empty, before what can't go on with the list.
 record Turns (starts ends : Classes) (empty : Bool) (far : Classes) (more test : List Token → Bool) : Type 0
   where
     by_head : ByHead more
@@ -117,7 +117,7 @@ may_end goes ends empty goes_end far =
     are_apart (comma or ends) goes && (are_apart ends comma && (lies_in goes_end far
     && (not empty || (lies_in goes far && lies_in comma far))))
 
--- THE LIST behind its first item
+-- THE LIST after its first item
 
 module _ (n : ℕ) (a : Part) (starts goes : Classes) (r : Reading) (item : Good n a starts false goes r)
     (e : Part) (ends goes_end far : Classes) (empty : Bool) (q : Reading)
@@ -502,7 +502,7 @@ good_braced_tail {n} {a} {starts} {goes} {r} value apart_starts apart_goes =
     (λ ts. not (next_is close ts)) is_next_value (value_turns starts apart_starts)
     (and_true (are_apart (comma or close) goes) true apart_goes refl)
 
--- ENUMERATORS, which end where no name comes after a comma
+-- ENUMERATORS, which end if no name comes after a comma
 
 enumerator_turns : (far : Classes) → lies_in (only class.Name) far ≡ true →
     Turns (only class.Name) none true far (next_is (only class.Name)) is_next_enumerator

@@ -41,7 +41,7 @@ opened (is_deeper a f s) = (f, s, refl)
 abbrev pub head_of : List Token → Option Token
 head_of ts = first_or ts None
 
--- the answer for a tree and what follows it, where so many constructs more may be around a token
+-- the answer for a tree and what follows it, if so many constructs more may be around a token
 abbrev pub outcome_of : Option (List Mark) → List Mark → List Token → Answer
 outcome_of None f rest = done f rest
 outcome_of (Some ms) f rest = too_deep (yield ms ++ rest)
@@ -94,9 +94,8 @@ Taken n a r ts (too_deep rest) = TooDeep n a r ts rest
 abbrev pub always : List Token → Bool
 always ts = true
 
--- A reading of a part, for lists of tokens that pass a test. Each tree of the part is read, where no token
--- follows
--- that could go on with it.
+-- A reading of a part, for lists of tokens that pass a test. Each tree of the part is read, if no token
+-- follows that could go on with it.
 pub record Reads (n : ℕ) (on : List Token → Bool) (a : Part) (goes_on : Classes) (r : Reading) : Type 0 where
   pub taken : (ts : List Token) → on ts ≡ true → Taken n a r ts (r ts)
   pub given : (f : List Mark) (rest : List Token) → Spells a f → no_else_lost f (head_of rest) ≡ true →
@@ -175,7 +174,7 @@ pairs_before (leave r ∷ f) o next h e =
 pairs_before (down ∷ f) o next h e = pairs_before f o next h e
 pairs_before (up ∷ f) o next h e = pairs_before f o next h e
 
--- the head of what is behind, where that is calm
+-- the head of what is after, if that is calm
 pub calm_or : (ts : List Token) (next : Option Token) → is_else (head_of ts) ≡ false → is_else next ≡ false →
     is_else (first_or ts next) ≡ false
 calm_or [] next h e = e
@@ -192,8 +191,8 @@ head_after (t ∷ u) ts us h = refl
 
 -- ONE PART AND THEN ANOTHER
 
--- The second part begins with what cannot go on with the first; where it may be empty, what follows both
--- cannot either.
+-- The second part begins with what cannot go on with the first; if it may be empty, what follows both cannot
+-- either.
 pub record Follows (goes_first starts : Classes) (empty : Bool) (goes_second goes : Classes) : Type 0 where
   pub apart : (c : TokenClass) → starts c ≡ true → goes_first c ≡ false
   pub through : empty ≡ true → (c : TokenClass) → goes c ≡ false → goes_first c ≡ false

@@ -33,7 +33,7 @@ left_of (done f rest) = rest
 left_of (syntax rest) = rest
 left_of (too_deep rest) = rest
 
--- the readings agree where the first tokens, so many as were read, and the head of the rest stay
+-- the readings agree if the first tokens, so many as were read, and the head of the rest stay
 abbrev pub Agrees : Reading → Reading → List Token → List Token → Type 0
 Agrees r other ts rest = (u us : List Token) → ts ≡ u ++ rest → head_of us ≡ head_of rest →
     other (u ++ us) ≡ r (u ++ us)
@@ -131,7 +131,7 @@ token_given n classes f rest o =
     ∙ ap (λ b. outcome_of (if b then Some (leaf o.0 ∷ []) else None) (leaf o.0 ∷ []) rest) (sym (ltb_zero n))
     ∙ ap (λ x. outcome n x rest) (sym o.2)
 
--- where the next token is known to be of the classes
+-- if the next token is known to be of the classes
 pub reads_known : (n : ℕ) (classes : Classes) → Reads n (next_is classes) (token classes) none
     (read_token classes)
 reads_known n classes = record {

@@ -1,5 +1,5 @@
--- Declarations, and what stands around them: their readings keep what readings promise, where those of what
--- counts a level do.
+-- Declarations, and what is around them: their readings keep what readings promise, if those of what counts a
+-- level do.
 
 use Rattle.std.proofs.Common.{◌≡◌, ℕ, Bool, true, false, if◌then◌else◌, List, [], ◌∷◌, refl, sym, subst}
 use Rattle.ba_tokens.specs.declared.token.Token.{Token}

@@ -1,4 +1,4 @@
--- Readings of what counts a level keep what readings promise, also where no level is left.
+-- Readings of what counts a level keep what readings promise, also if no level is left.
 
 use Rattle.std.proofs.Common.{◌≡◌, ℕ, suc, Bool, true, false, ◌&&◌, if◌then◌else◌, List, [], ◌∷◌, ◌++◌, Option, None, Some, refl, sym, ap, ◌∙◌, arith, append-nil, subst}
 use Rattle.ba_tokens.specs.declared.token.Token.{Token}
@@ -222,7 +222,7 @@ module _ (a : Part) (starts : Classes) (empty : Bool) (first : First a starts em
           ∙ shallow_given (yield o.0) o.0 rest o.1 refl (λ is_nil. empties o.0 rest o.1 is_nil ends)
           ∙ ap (λ x. outcome 0 x rest) (sym o.2)
 
--- a part that is never empty is refused where nothing begins it
+-- a part that is never empty is refused if nothing begins it
 pub reads_shallow : (a : Part) (starts goes : Classes) → First a starts false →
     ((t : Token) → starts (class_of t) ≡ true → From a t) →
     Sample a → Reads 0 always (deeper a) goes
@@ -252,7 +252,7 @@ pub record Empty (a : Part) (tree : List Mark) : Type 0 where
   pub pairs : (next : Option Token) → no_else_lost tree next ≡ true
   pub level : sunk 0 0 (one_deeper tree) ≡ None
 
--- a part that may be empty is, where nothing begins it
+-- a part that may be empty is, if nothing begins it
 pub reads_shallow_or_empty : (a : Part) (starts goes : Classes) → First a starts true →
     ((t : Token) → starts (class_of t) ≡ true → From a t) →
     (tree : List Mark) → Empty a tree → ((c : TokenClass) → goes c ≡ false → starts c ≡ false) →

@@ -1,4 +1,4 @@
--- Whether the constants of an enumerated type stand among the words of a declaration.
+-- Whether the constants of an enumerated type are among the words of a declaration.
 
 use Rattle.std.proofs.Common.{◌≡◌, Bool, true, false, ◌||◌, List, [], ◌∷◌, ◌++◌, map, Option, None, Some, option_map, refl, sym, ap, ◌∙◌}
 use Rattle.std.specs.Option.{is_some}

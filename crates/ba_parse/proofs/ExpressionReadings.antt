@@ -1,4 +1,4 @@
--- Expressions: their readings keep what readings promise, where those of what counts a level do.
+-- Expressions: their readings keep what readings promise, if those of what counts a level do.
 
 use Rattle.std.proofs.Common.{◌≡◌, ℕ, zero, suc, true, false, not, ◌&&◌, ◌||◌, List, [], ◌∷◌, ◌++◌, Some, refl, ap, ◌∙◌, inl, inr}
 use Rattle.ba_tokens.specs.declared.token.Token.{Token}
@@ -80,7 +80,7 @@ but_parenthesis c = not (mark punct.CloseParenthesis c)
 abbrev pub but_brace : Classes
 but_brace c = not (mark punct.CloseBrace c)
 
--- WHAT COUNTS A LEVEL, where n more may be around
+-- WHAT COUNTS A LEVEL, if n more may be around
 
 abbrev pub for_start : Classes
 for_start = declaration_word false or simple_start or mark punct.Semicolon

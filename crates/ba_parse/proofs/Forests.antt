@@ -53,8 +53,7 @@ pairs_append (leave r ∷ f) g next =
 pairs_append (down ∷ f) g next = pairs_append f g next
 pairs_append (up ∷ f) g next = pairs_append f g next
 
--- LEVELS: the marks from the first leaf on around which more than n constructs are, where d are around the
--- whole
+-- LEVELS: the marks from the first leaf on around which more than n constructs are, if d are around the whole
 
 abbrev pub back : ℕ → ℕ
 back zero = zero

@@ -32,7 +32,7 @@ pub both-read : (r s : Reading) (ts mid rest : List Token) (f g : List Mark) →
     s mid ≡ done g rest → (r ▹ s) ts ≡ done (f ++ g) rest
 both-read r s ts mid rest f g e d = rw (e, d) refl
 
--- where no level is left
+-- if no level is left
 pub none-told : (n : ℕ) (i : Inside) (ts : List Token) (s : Stop) → n ≡ 0 → when_empty i ts ≡ syntax ts →
     s ≡ refusal (next_is (starts_of i) ts) → Told {A = List Mark} (λ f. f) (Err s) (levels_left n i ts) ts
 none-told n i ts s e empty is = rw (levels_left-none n i ts e, is)
@@ -107,7 +107,7 @@ operand-stops part all stop.TooDeep inner n m ts mid rest f e lt d =
     ∙ rw (e, d) refl)
 operand-stops part all stop.Memory inner n m ts mid rest f e lt d = tt
 
--- where a part stops, it stops inside one more construct
+-- if a part stops, it stops inside one more construct
 pub lowered-stops : {A : Type 0} (part : A → List Mark) {B : Type 0} (all : B → List Mark) (s : Stop)
     (a : Answer) (rest : List Token) → Told part (Err s) a rest → Told all (Err s) (lowered a) rest
 lowered-stops part all stop.Syntax a rest d = ap lowered d

@@ -21,7 +21,7 @@ below_total [] k = omega arith
 below_total (x ∷ xs) zero = let e : x ≤ x + total xs = omega arith in e
 below_total (x ∷ xs) (suc k) = let e : get_or xs k 0 ≤ total xs = below_total xs k in omega (arith, e)
 
--- a file is read as its tree where enough levels are left
+-- a file is read as its tree if enough levels are left
 read_as : (n : ℕ) (tokens : List Token) (tree : List Mark) → IsFile tokens tree → total (levels 0 tree) ≤ n →
     read_file (levels_left n) tokens ≡ done tree []
 read_as n tokens tree it enough =

@@ -1,4 +1,4 @@
--- No node without a name stands in the words of a type, nor in an array's length.
+-- No node without a name is in the words of a type, nor in an array's length.
 
 use Rattle.std.proofs.Common.{◌≡◌, Bool, true, false, ◌||◌, List, [], ◌∷◌, ◌++◌, map, Option, None, Some, option_map, refl, sym, ap, ◌∙◌, subst, Box, Global}
 use Rattle.ba_tokens.specs.declared.token.Token.{Token}
@@ -88,7 +88,7 @@ row : {A : Type 0} (marks : A → M) (es : List (Of marks)) → IsQuiet (joined 
 row marks [] = none
 row marks (e ∷ es) = both e.1 (row marks es)
 
--- a tree is quiet where what its type adds to quiet parts is
+-- a tree is quiet if what its type adds to quiet parts is
 by_step : {A F : Type 0} (marks : A → M) (roll : F → A) (step : F → M) → ((z : F) → marks (roll z) ≡ step z) →
     (z x : F) → z ≡ x → IsQuiet (step z) → IsQuiet (marks (roll x))
 by_step marks roll step rolls z x is p = subst (λ y. IsQuiet (marks (roll y))) is

@@ -25,7 +25,7 @@ pub same_next : (classes : Classes) (ts us : List Token) → head_of ts ≡ head
     ≡ next_is classes us
 same_next classes ts us h = next_is_head classes ts ∙ ap (test_head classes) h ∙ sym (next_is_head classes us)
 
--- the test answers the same where what was read and the head of the rest stay
+-- the test answers the same if what was read and the head of the rest stay
 abbrev pub Stays : (List Token → Bool) → List Token → List Token → Type 0
 Stays test ts rest = (u us : List Token) → ts ≡ u ++ rest → head_of us ≡ head_of rest →
     test (u ++ us) ≡ test ts
@@ -149,7 +149,7 @@ pub many_suc : (m : ℕ) (test : List Token → Bool) (r : Reading) (ts : List T
 unfolding many_upto
 many_suc m test r ts = refl
 
--- a reading that takes at least one token where the test holds
+-- a reading that takes at least one token if the test holds
 abbrev pub Eats : (List Token → Bool) → Reading → Type 0
 Eats test r = (ts : List Token) (f : List Mark) (rest : List Token) → test ts ≡ true → r ts ≡ done f rest →
     length rest < length ts

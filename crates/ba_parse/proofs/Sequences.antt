@@ -8,7 +8,7 @@ use Rattle.ba_trees.specs.Marks.{Mark}
 use Rattle.ba_parse.specs.Readings.{Reading, ◌▹◌, done}
 use Rattle.ba_parse.specs.Telling.{Told}
 
--- where a part stops, the whole stops
+-- if a part stops, the whole stops
 pub first-stops : {A B : Type 0} (part : A → List Mark) (all : B → List Mark) (s : Stop) (r q : Reading)
     (ts rest : List Token) → Told part (Err s) (r ts) rest → Told all (Err s) ((r ▹ q) ts) rest
 first-stops part all stop.Syntax r q ts rest d = rw d refl

@@ -1,5 +1,4 @@
--- Declarations and statements: their readings keep what readings promise, where those of what counts a level
--- do.
+-- Declarations and statements: their readings keep what readings promise, if those of what counts a level do.
 
 use Rattle.std.proofs.Common.{◌≡◌, ℕ, Bool, true, false, not, ◌&&◌, ◌||◌, List, [], ◌∷◌, ◌++◌, refl, sym, ap, ◌∙◌, subst}
 use Rattle.ba_tokens.specs.declared.token.Token.{Token}

@@ -51,7 +51,7 @@ word_read-shallow true true t ts rest e = cc
 word_read-shallow true false t ts rest e = cc
 word_read-shallow false is t ts rest e = cc
 
--- what is read where the word is one of a type and agrees, and where it does not agree
+-- what is read if the word is one of a type and agrees, and if it does not agree
 both_hold : (is agrees : Bool) (x y z : Answer) → is ≡ true → agrees ≡ true →
     (if is then (if agrees then x else y) else z) ≡ x
 both_hold is agrees x y z i a = rw (i, a) refl

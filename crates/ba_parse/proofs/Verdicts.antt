@@ -17,8 +17,8 @@ use Rattle.ba_parse.proofs.EachLevel.{good_files}
 
 -- LISTS
 
-pub place_of : (u rest : List Token) → length (u ++ rest) - length rest ≡ length u
-place_of u rest = let e : length (u ++ rest) ≡ length u + length rest = length-append u rest in
+pub token_number : (u rest : List Token) → length (u ++ rest) - length rest ≡ length u
+token_number u rest = let e : length (u ++ rest) ≡ length u + length rest = length-append u rest in
     omega (arith, e)
 
 take_more : (u : List Token) (t : Token) (rest : List Token) → take (length u + 1) (u ++ t ∷ rest) ≡ u ++ t
@@ -127,8 +127,8 @@ stops_deep ts tree it ms e h w =
     let before_is : e.before ≡ d.before = append_cancel_right e.before d.before left whole in
     ap (λ x. answer_of (x ++ e.refused ∷ w)) before_is ∙ d.near (e.refused ∷ w) refl
 
--- the tokens of a file that begins with a list of tokens, up to one of them, are of levels that are accepted,
--- where reading the list doesn't stop as too deep
+-- A file's tokens begin with some tokens of a list. These have levels that are accepted, if reading the list
+-- doesn't stop as too deep.
 shallow_before : (ts : List Token) → ((rest : List Token) → answer_of ts ≡ too_deep rest → ⊥) → (k : ℕ) →
     k ≤ length ts →
     (others : List Token) (tree : List Mark) → IsFile others tree → take k others ≡ take k ts → (j : ℕ) →
@@ -180,7 +180,7 @@ verdict_of ts (syntax rest) = syntax_at (place ts rest)
 verdict_of ts (too_deep rest) = deep_at (place ts rest)
 
 place_is : (ts u rest : List Token) → ts ≡ u ++ rest → place ts rest ≡ length u
-place_is ts u rest h = ap (λ x. length x - length rest) h ∙ place_of u rest
+place_is ts u rest h = ap (λ x. length x - length rest) h ∙ token_number u rest
 
 length_is : (ts u rest : List Token) → ts ≡ u ++ rest → length ts ≡ length u + length rest
 length_is ts u rest h = ap length h ∙ length-append u rest

@@ -40,7 +40,7 @@ or_second_true false b h = h
 abbrev agrees_with : List TokenClass → TokenClass → Bool
 agrees_with cs c = list_all (λ d. agree d c) cs
 
--- the words may stand in one list
+-- the words may be in one list
 abbrev fine : Bool → List TokenClass → Bool
 fine static cs = list_all (declaration_word static) cs && all_agree cs
 
@@ -202,7 +202,7 @@ refusal static before (t ∷ ts) h =
     (not_true (agrees_with before (class_of t)) (and_right (declaration_word static (class_of t))
     (not (agrees_with before (class_of t))) h))
 
--- WHAT IS KEPT, where words of these classes have been read
+-- WHAT IS KEPT, if words of these classes have been read
 
 record WordsDone (static : Bool) (before : List TokenClass) (ts : List Token) (f : List Mark)
     (rest : List Token) : Type 0 where
@@ -312,7 +312,7 @@ words_kept static (t ∷ ts) before h =
     (by_word static before t ts h (declaration_word static (class_of t)) refl
     (λ g. words_kept static ts (before ++ class_of t ∷ []) g))
 
--- words that name a type are read, where no other follows
+-- words that name a type are read, if no other follows
 words_read : (static : Bool) (ts : List Token) (before : List TokenClass) (rest : List Token) →
     names_type static (before ++ map class_of ts) ≡ true → next_is (declaration_word static) rest ≡ false →
     words_after static before (ts ++ rest) ≡ done (map leaf ts) rest

@@ -1,4 +1,4 @@
--- Files, what they begin with, and what is said of a list of tokens.
+-- Files, the lists that begin one, and what is said of a list of tokens.
 
 use Rattle.std.specs.Prelude.{◌≡◌, ℕ, ◌+◌, ◌<◌, ◌≤◌, true, List, length, take, get_or, None}
 use Rattle.ba_tokens.specs.declared.token.Token.{Token}
@@ -22,14 +22,13 @@ pub record Begins (list : List Token) : Type 0 where
 abbrev pub level_at : List Mark → ℕ → ℕ
 level_at tree k = get_or (levels 0 tree) k 0
 
--- the tokens are a file's, and none has a level that is not accepted
+-- the tokens are a file's, and each has a level that is accepted
 pub record IsParsed (tokens : List Token) (tree : List Mark) : Type 0 where
   pub is_file : IsFile tokens tree
   pub accepted : (j : ℕ) → level_at tree j ≤ max_level
 
--- No file's tokens begin with tokens 0 to k, but some file's with those before; at the end of the list, it is
--- no file's. No
--- token before is too deep in a file that begins with those.
+-- No file's tokens begin with tokens 0 to k, but some file's begin with those before k. At the end of the
+-- list, the list is no file's. No token before k is too deep in a file that begins with those.
 pub record IsSyntaxError (tokens : List Token) (k : ℕ) : Type 0 where
   pub within : k ≤ length tokens
   pub begins : Begins (take k tokens)
@@ -48,17 +47,19 @@ pub record IsTooDeep (tokens : List Token) (k : ℕ) : Type 0 where
   pub deep : max_level < level_at tree k
   pub before : (j : ℕ) → j < k → level_at tree j ≤ max_level
 
--- what is said of a list of tokens
+-- what the grammar says of a list of tokens
 pub data Verdict : Type 0 where
   parsed : List Mark → Verdict
   syntax_at : ℕ → Verdict
   deep_at : ℕ → Verdict
 
+-- what a verdict says of a list of tokens
 abbrev pub Says : List Token → Verdict → Type 0
 Says tokens (parsed tree) = IsParsed tokens tree
 Says tokens (syntax_at k) = IsSyntaxError tokens k
 Says tokens (deep_at k) = IsTooDeep tokens k
 
+-- a verdict on a list of tokens, which is true
 pub record Said (tokens : List Token) : Type 0 where
   pub verdict : Verdict
   pub says : Says tokens verdict

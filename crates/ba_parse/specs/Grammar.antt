@@ -12,8 +12,8 @@ use Rattle.ba_trees.specs.declared.class.TokenClass.TheVariants as class
 use Rattle.ba_trees.specs.Classes.{Classes, class_of, only, word, mark, ◌or◌, names_type}
 use Rattle.ba_trees.specs.Marks.{Rule, Mark, leaf, enter, leave, down, up, node_of, one_deeper, yield, file, external, type_name, specifiers, enumerators, enumerator, parameters, parameter, no_name, array_length, declarators, declarator, braced, declaration, block, statement, no_else, group, label, for_first, simples, simple, target, arguments, conditional, chain, unary, primary}
 
--- What stands on the right side of a rule. `after a k` is a part and then one that may depend on it; `words
--- static` are the words that name a type, or those up to an `enum`; `deeper` counts a level.
+-- The right side of a rule. `after a k` is a part and then one that depends on its tree. `words static` are
+-- the words that name a type, or those up to an `enum`. `deeper` counts a level.
 pub data Part : Type 0 where
   nothing : Part
   token : Classes → Part
@@ -28,24 +28,31 @@ pub data Part : Type 0 where
 -- one part and then another; a part that may be left out; one or more with commas between
 infixr 6 ◌·◌
 infixr 5 ◌∣◌
+-- the first part, then the second
 abbrev pub ◌·◌ : Part → Part → Part
 a · b = after a (λ f. b)
 
+-- one part or the other
 abbrev pub ◌∣◌ : Part → Part → Part
 a ∣ b = either a b
 
+-- a part, or nothing
 abbrev pub maybe : Part → Part
 maybe a = a ∣ nothing
 
+-- this keyword
 abbrev pub key : Keyword → Part
 key k = token (word k)
 
+-- this punctuator
 abbrev pub sign : Punct → Part
 sign q = token (mark q)
 
+-- a name
 abbrev pub name : Part
 name = token (only class.Name)
 
+-- a part at least once, with commas between
 abbrev pub listed : Part → Part
 listed a = a · many (sign punct.Comma · a)
 
@@ -53,12 +60,15 @@ listed a = a · many (sign punct.Comma · a)
 abbrev pub in_parentheses : Part → Part
 in_parentheses a = sign punct.OpenParenthesis · deeper a · sign punct.CloseParenthesis
 
+-- a part in square brackets, which count a level
 abbrev pub in_brackets : Part → Part
 in_brackets a = sign punct.OpenBracket · deeper a · sign punct.CloseBracket
 
+-- a part in braces, which count a level
 abbrev pub in_braces : Part → Part
 in_braces a = sign punct.OpenBrace · deeper a · sign punct.CloseBrace
 
+-- a semicolon
 abbrev pub semicolon : Part
 semicolon = sign punct.Semicolon
 
@@ -68,7 +78,7 @@ semicolon = sign punct.Semicolon
 abbrev pub has_class : Classes → List Mark → Bool
 has_class classes f = list_any (λ t. classes (class_of t)) (yield f)
 
--- `const` and `static` where they are still to come, each at most once
+-- `const` and `static`, each at most once, if the list had none so far
 abbrev pub qualifiers_left : Bool → Bool → Part
 qualifiers_left false false = nothing
 qualifiers_left true false = maybe (key keyword.Const)
@@ -78,12 +88,13 @@ qualifiers_left true true =
     ∣ key keyword.Static · maybe (key keyword.Const)
     ∣ nothing
 
+-- what may follow a tag: `const` and `static` if they were not before it
 abbrev pub qualifiers_behind : Bool → List Mark → Part
 qualifiers_behind static f = qualifiers_left (not (has_class (word keyword.Const) f))
     (static && not (has_class (word keyword.Static) f))
 
--- what follows the words of a type: behind `enum` its tag or what may stand for it, and the words that are
--- still to come
+-- what follows the words of a type: after `enum` its tag or what may replace it, and the qualifiers still
+-- allowed
 abbrev pub behind_words : Bool → Part → List Mark → Part
 behind_words static tag f =
     if has_class (word keyword.Enum) f then tag · qualifiers_behind static f else nothing
@@ -92,7 +103,7 @@ behind_words static tag f =
 abbrev pub type_words : Part
 type_words = node type_name (after (words false) (behind_words false name))
 
--- those of a declaration of a file or of a block: `static` where it is accepted, and the constants of an
+-- those of a declaration of a file or of a block: `static` if it is accepted, and the constants of an
 -- enumerated type
 abbrev pub declaration_words : Bool → Part
 declaration_words static =
@@ -104,6 +115,7 @@ abbrev pub is_enumerators : Rule → Bool
 is_enumerators enumerators = true
 is_enumerators r = false
 
+-- the tree has a list of enumeration constants
 abbrev pub has_enumerators : List Mark → Bool
 has_enumerators [] = false
 has_enumerators (leaf t ∷ ms) = has_enumerators ms
@@ -112,18 +124,21 @@ has_enumerators (leave r ∷ ms) = has_enumerators ms
 has_enumerators (down ∷ ms) = has_enumerators ms
 has_enumerators (up ∷ ms) = has_enumerators ms
 
--- declarators, which may be absent behind such constants
+-- declarators, which may be absent after such constants
 abbrev pub declared : List Mark → Part
 declared f = if has_enumerators f then maybe (rule declarators) else rule declarators
 
 -- OPERATORS
 
+-- the signs of unary operators
 abbrev pub prefix_sign : Classes
 prefix_sign = mark punct.Plus or mark punct.Minus or mark punct.Tilde or mark punct.Exclamation
 
+-- `++` and `--`
 abbrev pub step_sign : Classes
 step_sign = mark punct.Increment or mark punct.Decrement
 
+-- the signs of assignments
 abbrev pub assign_sign : Classes
 assign_sign =
     mark punct.Assign or mark punct.PlusAssign or mark punct.MinusAssign or mark punct.StarAssign or mark
@@ -147,27 +162,29 @@ operator (suc (suc (suc (suc (suc (suc (suc (suc zero)))))))) c = mark punct.Bar
 operator (suc (suc (suc (suc (suc (suc (suc (suc (suc zero))))))))) c = mark punct.AndAnd c
 operator (suc (suc (suc (suc (suc (suc (suc (suc (suc (suc n)))))))))) c = mark punct.OrOr c
 
--- an operand of operators of level n + 1: a unary expression and, where operators of levels up to n follow,
--- their chains
+-- an operand of operators of level n + 1: a unary expression, and the chains of operators of levels up to n
+-- that follow it
 abbrev pub operand : ℕ → Part
 operand zero = rule unary
 operand (suc n) = operand n · maybe (rule (chain (suc n)))
 
--- what follows an operator of level n: an operand, and what goes on with operators of that level
+-- what follows an operator of level n: an operand, and the rest of the chain of that level
 abbrev pub chained : ℕ → Part
 chained zero = rule unary
 chained (suc n) = operand n · maybe (rule (chain (suc n)))
 
+-- an expression
 abbrev pub expression : Part
 expression = rule conditional
 
 -- RULES
 
--- a block follows only where each parameter has a name, or the list is `void` alone
+-- a block follows only if each parameter has a name, or the list is `void` alone
 abbrev pub is_no_name : Rule → Bool
 is_no_name no_name = true
 is_no_name r = false
 
+-- a parameter of the tree has no name
 abbrev pub has_unnamed : List Mark → Bool
 has_unnamed [] = false
 has_unnamed (leaf t ∷ ms) = has_unnamed ms
@@ -176,29 +193,36 @@ has_unnamed (leave r ∷ ms) = has_unnamed ms
 has_unnamed (down ∷ ms) = has_unnamed ms
 has_unnamed (up ∷ ms) = has_unnamed ms
 
+-- the tokens are the word `void` alone
 abbrev pub is_void : List Token → Bool
 is_void [] = false
 is_void (t ∷ []) = word keyword.Void (class_of t)
 is_void (t ∷ u ∷ ts) = false
 
+-- after these parameters a body may follow: each has a name, or they are `void`
 abbrev pub takes_block : List Mark → Bool
 takes_block f = not (has_unnamed f) || is_void (yield f)
 
+-- a body, if it may follow, or a semicolon
 abbrev pub function_end : Bool → Part
 function_end true = rule block ∣ semicolon
 function_end false = semicolon
 
+-- a function from its name on
 abbrev pub function_tail : Part
 function_tail =
     name · sign punct.OpenParenthesis
     · after (deeper (rule parameters)) (λ f. sign punct.CloseParenthesis · function_end (takes_block f))
 
+-- the statement that a condition, an `else` or a `do` controls, which counts a level
 abbrev pub controlled : Part
 controlled = deeper (rule statement)
 
+-- an expression in parentheses
 abbrev pub condition : Part
 condition = in_parentheses expression
 
+-- the forms of a statement
 abbrev pub statement_part : Part
 statement_part =
     rule block
@@ -219,7 +243,7 @@ statement_part =
     (sign punct.Comma · expression))
     · semicolon
 
--- the right side of a rule; the words of a type, and what is absent, stand in nodes of their own
+-- the right side of a rule; the words of a type, and what is absent, are nodes
 abbrev pub grammar : Rule → Part
 grammar file = many (rule external)
 grammar external =
@@ -269,6 +293,7 @@ grammar primary =
 
 -- THE TREES of a part, written out
 
+-- the tree is one of the part: the meaning of a grammar
 pub data Spells : Part → List Mark → Type 0 where
   is_nothing : Spells nothing []
   is_token : (classes : Classes) (t : Token) → classes (class_of t) ≡ true →

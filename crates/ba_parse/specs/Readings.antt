@@ -1,5 +1,5 @@
--- What each function of the parser gives: the tree of a part, written out, with the tokens that are left; or
--- the tokens from the refused one on. These are no definitions of the grammar: laws lead from here to it.
+-- What each function of the parser gives. That is the tree of a part, written out, with the tokens after it;
+-- or the tokens from the refused one on. This is no definition of the grammar: laws lead from here to it.
 
 use Rattle.std.specs.Prelude.{ℕ, Bool, true, false, not, ◌&&◌, if◌then◌else◌, List, [], ◌∷◌, ◌++◌, length}
 use Prim.Native.Nat.{zero, suc}
@@ -15,37 +15,44 @@ use Rattle.ba_trees.specs.Classes.{Classes, class_of, only, word, mark, ◌or◌
 use Rattle.ba_trees.specs.Marks.{Rule, Mark, leaf, node_of, one_deeper, file, external, type_name, specifiers, enumerators, enumerator, parameters, parameter, no_name, array_length, declarators, declarator, braced, declaration, block, statement, no_else, group, label, for_first, simples, simple, target, arguments, conditional, chain, unary, primary}
 use Rattle.ba_parse.specs.Grammar.{prefix_sign, step_sign, assign_sign, operator, takes_block, has_class, has_enumerators}
 
+-- what a reading gives: a tree and the tokens after it, or the tokens from the refused one on
 pub data Answer : Type 0 where
   done : List Mark → List Token → Answer
   syntax : List Token → Answer
   too_deep : List Token → Answer
 
+-- a function of the parser: from the tokens to what it gives
 abbrev pub Reading : Type 0
 Reading = List Token → Answer
 
 -- HOW READINGS ARE PUT TOGETHER
 
+-- a tree before what a reading gives
 abbrev pub with_front : List Mark → Answer → Answer
 with_front f (done g rest) = done (f ++ g) rest
 with_front f (syntax rest) = syntax rest
 with_front f (too_deep rest) = too_deep rest
 
+-- a reading of the tokens after a tree, by that tree
 abbrev pub then_read : Answer → (List Mark → Reading) → Answer
 then_read (done f rest) k = with_front f (k f rest)
 then_read (syntax rest) k = syntax rest
 then_read (too_deep rest) k = too_deep rest
 
+-- a node around what a reading gives
 abbrev pub around : Rule → Answer → Answer
 around r (done f rest) = done (node_of r f) rest
 around r (syntax rest) = syntax rest
 around r (too_deep rest) = too_deep rest
 
+-- a level around what a reading gives
 abbrev pub lowered : Answer → Answer
 lowered (done f rest) = done (one_deeper f) rest
 lowered (syntax rest) = syntax rest
 lowered (too_deep rest) = too_deep rest
 
 infixr 6 ◌▹◌
+-- one reading, then the other
 abbrev pub ◌▹◌ : Reading → Reading → Reading
 (r ▹ s) ts = then_read (r ts) (λ f. s)
 
@@ -53,27 +60,33 @@ abbrev pub ◌▹◌ : Reading → Reading → Reading
 abbrev pub read_after : Reading → (List Mark → Reading) → Reading
 read_after r k ts = then_read (r ts) k
 
+-- no token
 abbrev pub read_nothing : Reading
 read_nothing ts = done [] ts
 
--- whether the next token is of one of the classes
+-- the next token is of one of the classes
 abbrev pub next_is : Classes → List Token → Bool
 next_is classes [] = false
 next_is classes (t ∷ ts) = classes (class_of t)
 
+-- a token of these classes
 abbrev pub read_token : Classes → Reading
 read_token classes [] = syntax []
 read_token classes (t ∷ ts) = if classes (class_of t) then done (leaf t ∷ []) ts else syntax (t ∷ ts)
 
+-- this punctuator
 abbrev pub read_sign : Punct → Reading
 read_sign q = read_token (mark q)
 
+-- this keyword
 abbrev pub read_key : Keyword → Reading
 read_key k = read_token (word k)
 
+-- a name
 abbrev pub read_name : Reading
 read_name = read_token (only class.Name)
 
+-- a node around what is read
 abbrev pub read_node : Rule → Reading → Reading
 read_node r s ts = around r (s ts)
 
@@ -81,25 +94,30 @@ read_node r s ts = around r (s ts)
 abbrev pub read_either : (List Token → Bool) → Reading → Reading → Reading
 read_either first r s ts = if first ts then r ts else s ts
 
+-- a part, if the next token begins it; else nothing
 abbrev pub read_maybe : Classes → Reading → Reading
 read_maybe starts r = read_either (next_is starts) r read_nothing
 
--- as often as it begins, but at most so many times
+-- a part as often as it begins, but at most so many times
 unfoldable pub many_upto : ℕ → (List Token → Bool) → Reading → Reading
 many_upto zero begins r ts = done [] ts
 many_upto (suc n) begins r ts = if begins ts then then_read (r ts) (λ f. many_upto n begins r) else done [] ts
 
+-- a part as often as it begins
 abbrev pub read_many : (List Token → Bool) → Reading → Reading
 read_many begins r ts = many_upto (length ts) begins r ts
 
+-- a part at least once, with commas between
 abbrev pub read_listed : Reading → Reading
 read_listed r = r ▹ read_many (next_is (mark punct.Comma)) (read_sign punct.Comma ▹ r)
 
--- THE WORDS of a type, where these classes have been read of it
+-- THE WORDS of a type, after words of these classes
 
+-- the end of the words of a type, one of which has to name it
 abbrev pub after_words : List TokenClass → Reading
 after_words before ts = if list_any type_word before then done [] ts else syntax ts
 
+-- the words of a type, after words of these classes
 unfoldable pub words_after : Bool → List TokenClass → Reading
 words_after static before [] = after_words before []
 words_after static before (t ∷ ts) =
@@ -108,7 +126,7 @@ words_after static before (t ∷ ts) =
     (words_after static (before ++ class_of t ∷ []) ts) else syntax (t ∷ ts))
     else after_words before (t ∷ ts)
 
--- `const` and `static` where they are still to come
+-- `const` and `static` if the words so far had none
 abbrev pub read_qualifiers_left : Bool → Bool → Reading
 read_qualifiers_left false false = read_nothing
 read_qualifiers_left true false = read_maybe (word keyword.Const) (read_key keyword.Const)
@@ -119,19 +137,23 @@ read_qualifiers_left true true =
     (read_maybe (word keyword.Static)
     (read_key keyword.Static ▹ read_maybe (word keyword.Const) (read_key keyword.Const)))
 
+-- `const` and `static` after a tag, if they were not before it
 abbrev pub read_qualifiers_behind : Bool → List Mark → Reading
 read_qualifiers_behind static f = read_qualifiers_left (not (has_class (word keyword.Const) f))
     (static && not (has_class (word keyword.Static) f))
 
+-- what follows the words of a type: a tag after `enum`
 abbrev pub read_behind_words : Bool → Reading → List Mark → Reading
 read_behind_words static tag f = if has_class (word keyword.Enum) f then tag ▹ read_qualifiers_behind static f
     else read_nothing
 
+-- the words of a type
 abbrev pub read_type_words : Reading
 read_type_words = read_node type_name (read_after (words_after false []) (read_behind_words false read_name))
 
 -- WHAT COUNTS A LEVEL, by what is in it
 
+-- what is inside a construct that counts a level
 pub data Inside : Type 0 where
   in_parameters : Inside
   in_length : Inside
@@ -147,13 +169,16 @@ pub data Inside : Type 0 where
   in_unary : Inside
   in_chained : ℕ → Inside
 
--- what an expression, an assignment or the like, a statement, a label, an item of a block begins with
+-- the first tokens of an expression, of an assignment, step or call, of a statement, of a label and of an
+-- item of a block
 abbrev pub operand_start : Classes
 operand_start = only class.Name or only class.Constant or mark punct.OpenParenthesis or prefix_sign
 
+-- the first tokens of an assignment, step or call
 abbrev pub simple_start : Classes
 simple_start = only class.Name or step_sign
 
+-- the first tokens of a statement
 abbrev pub statement_start : Classes
 statement_start =
     mark punct.OpenBrace or mark punct.Semicolon or simple_start or word keyword.If or word keyword.Switch or
@@ -162,12 +187,15 @@ statement_start =
     keyword.Assert
     or word keyword.Printf
 
+-- the first tokens of a label
 abbrev pub label_start : Classes
 label_start = word keyword.Case or word keyword.Default
 
+-- the first tokens of an item of a block
 abbrev pub item_start : Classes
 item_start = declaration_word false or statement_start
 
+-- the first tokens of what is inside a construct
 abbrev pub starts_of : Inside → Classes
 starts_of in_parameters = declaration_word false
 starts_of in_length = operand_start
@@ -183,7 +211,7 @@ starts_of in_cast = declaration_word false
 starts_of in_unary = operand_start
 starts_of (in_chained n) = operand_start
 
--- where nothing begins it, it is empty or refused
+-- a part that nothing begins is empty or refused
 abbrev pub when_empty : Inside → Reading
 when_empty in_parameters = read_node parameters read_nothing
 when_empty in_length = read_nothing
@@ -199,22 +227,26 @@ when_empty in_cast = syntax
 when_empty in_unary = syntax
 when_empty (in_chained n) = syntax
 
--- no level is left for its tokens
+-- the part if no level is left for its tokens
 abbrev pub shallow : Inside → Reading
 shallow i ts = if next_is (starts_of i) ts then too_deep ts else when_empty i ts
 
--- RULES, where the readings of what counts a level are given
+-- RULES, by the readings of what counts a level
 
+-- the readings of what is inside
 abbrev pub Inner : Type 0
 Inner = Inside → Reading
 
+-- what is inside, with its level
 abbrev pub deeper_in : Inner → Inside → Reading
 deeper_in inner i ts = lowered (inner i ts)
 
+-- what is inside parentheses, with its level
 abbrev pub read_parenthesized : Inner → Inside → Reading
 read_parenthesized inner i = read_sign punct.OpenParenthesis ▹ deeper_in inner i ▹ read_sign
     punct.CloseParenthesis
 
+-- what is inside square brackets, with its level
 abbrev pub read_bracketed : Inner → Inside → Reading
 read_bracketed inner i = read_sign punct.OpenBracket ▹ deeper_in inner i ▹ read_sign punct.CloseBracket
 
@@ -223,6 +255,7 @@ read_semicolon = read_sign punct.Semicolon
 
 -- expressions
 
+-- an index or arguments after a name, if they follow
 abbrev pub after_name : Inner → Reading
 after_name inner =
     read_either (next_is (mark punct.OpenBracket)) (read_bracketed inner in_expression)
@@ -274,7 +307,7 @@ read_array_length inner = read_node array_length (read_bracketed inner in_length
 abbrev pub maybe_length : Inner → Reading
 maybe_length inner = read_maybe (mark punct.OpenBracket) (read_array_length inner)
 
--- a comma before the closing brace is the last
+-- a comma before the closing brace is the last one
 abbrev pub is_next_value : List Token → Bool
 is_next_value [] = false
 is_next_value (t ∷ ts) = mark punct.Comma (class_of t) && not (next_is (mark punct.CloseBrace) ts)
@@ -465,7 +498,7 @@ abbrev pub read_enumerator : Inner → Reading
 read_enumerator inner = read_node enumerator
     (read_name ▹ read_maybe (mark punct.Assign) (read_sign punct.Assign ▹ read_expression inner))
 
--- a comma before no name is the last
+-- a comma before no name is the last one
 abbrev pub is_next_enumerator : List Token → Bool
 is_next_enumerator [] = false
 is_next_enumerator (t ∷ ts) = mark punct.Comma (class_of t) && next_is (only class.Name) ts
@@ -490,7 +523,7 @@ read_inside inner in_cast = read_type_words
 read_inside inner in_unary = read_unary inner
 read_inside inner (in_chained n) = read_chained inner n
 
--- inside a construct that counts a level, where so many more may be around a token of it
+-- inside a construct that counts a level, if n more may be around a token of it
 unfoldable pub levels_left : ℕ → Inner
 levels_left zero = shallow
 levels_left (suc n) = read_inside (levels_left n)

@@ -9,6 +9,7 @@ use Rattle.ba_trees.specs.Classes.{Classes, only, word, mark, ◌or◌, declarat
 use Rattle.ba_parse.specs.Grammar.{prefix_sign, step_sign, assign_sign, operator}
 use Rattle.ba_parse.specs.Readings.{operand_start, simple_start, statement_start, label_start, item_start}
 
+-- the classes of a set of tokens
 abbrev pub classes : TokenSet → Classes
 classes set.Name = only class.Name
 classes set.Constant = only class.Constant

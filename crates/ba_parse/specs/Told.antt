@@ -7,7 +7,7 @@ use Rattle.ba_trees.specs.Marks.{Mark}
 use Rattle.ba_parse.specs.declared.error.ParseError.{ParseError}
 use Rattle.ba_parse.specs.declared.error.ParseError.TheVariants as error
 
--- the answer is said of the tokens; want of memory may come instead
+-- the answer is said of the tokens, or is out of memory
 abbrev pub IsTold : List Token → Result (List Mark) ParseError → Type 0
 IsTold tokens (Ok tree) = Says tokens (parsed tree)
 IsTold tokens (Err (error.Syntax k)) = Says tokens (syntax_at k)

@@ -28,15 +28,17 @@ use ba_trees::tree::declarations::{
 use ba_trees::tree::expressions::{Conditional, NextExpression};
 use std::alloc::Global;
 
+/// A comma.
 const COMMA: TokenSet = TokenSet::Punct(Punct::Comma);
 
+/// A word of a declaration inside a function.
 const DECLARATION_WORD: TokenSet = TokenSet::DeclarationWord { with_static: false };
 
-/// An expression, where one begins.
+/// An expression, if one begins.
 ///
 /// # Errors
 ///
-/// The reading's own, and want of memory.
+/// [`Stop::Syntax`] or [`Stop::TooDeep`] as reading by the grammar stops; [`Stop::Memory`]: out of memory.
 pub fn maybe_expression(
     alloc: Global,
     reader: &mut Reader,
@@ -52,6 +54,7 @@ pub fn maybe_expression(
     Ok(Some(expression))
 }
 
+/// The length of an array in square brackets, if they follow.
 fn maybe_length(
     alloc: Global,
     reader: &mut Reader,
@@ -73,7 +76,7 @@ fn maybe_length(
     }))
 }
 
-/// What stands between the brackets of an array, if anything.
+/// What is between the brackets of an array, if anything.
 fn inner_length(
     alloc: Global,
     reader: &mut Reader,
@@ -88,7 +91,7 @@ fn inner_length(
     maybe_expression(alloc, reader, levels - 1)
 }
 
-/// The length where no level is left: none, or refused.
+/// The length if no level is left: none, or a refusal.
 fn no_length(reader: &Reader) -> Result<Option<Conditional>, Stop>
     ensures { Told (λ e. optional (option_map conditional_marks e)) result
         (shallow in_length reader.now) reader.now }
@@ -99,6 +102,7 @@ fn no_length(reader: &Reader) -> Result<Option<Conditional>, Stop>
     Ok(None)
 }
 
+/// Values between braces.
 fn braced(alloc: Global, reader: &mut Reader, levels: u32) -> Result<Braced, Stop>
     ensures { Told braced_marks result (read_braced (levels_left levels) reader.old) reader.new }
 {
@@ -116,6 +120,7 @@ fn braced(alloc: Global, reader: &mut Reader, levels: u32) -> Result<Braced, Sto
     })
 }
 
+/// A comma, if one follows.
 fn maybe_comma(reader: &mut Reader) -> Result<Option<Token>, Stop>
     ensures { Told optional_leaf result
         (read_maybe (mark punct.Comma) (read_sign punct.Comma) reader.old) reader.new }
@@ -127,7 +132,7 @@ fn maybe_comma(reader: &mut Reader) -> Result<Option<Token>, Stop>
     Ok(Some(comma))
 }
 
-/// Expressions, each after a comma; a comma before the closing brace is the last.
+/// Expressions, each after a comma. A comma before the closing brace is the last one.
 fn next_values(alloc: Global, reader: &mut Reader, levels: u32) -> Result<Vec<NextExpression>, Stop>
     ensures { Told (λ v. joined (map next_expression_marks v.items)) result
         (read_many is_next_value (read_sign punct.Comma ▹ read_expression (levels_left levels))
@@ -144,6 +149,7 @@ fn next_values(alloc: Global, reader: &mut Reader, levels: u32) -> Result<Vec<Ne
     Ok(rest)
 }
 
+/// An initialiser after `=`, if one follows.
 fn maybe_initialiser(
     alloc: Global,
     reader: &mut Reader,
@@ -160,6 +166,7 @@ fn maybe_initialiser(
     Ok(Some(given))
 }
 
+/// An initialiser: an expression, or values between braces.
 fn initialiser(alloc: Global, reader: &mut Reader, levels: u32) -> Result<Initialiser, Stop>
     ensures { Told initialiser_marks result (read_initialiser (levels_left levels) reader.old)
         reader.new }
@@ -174,6 +181,7 @@ fn initialiser(alloc: Global, reader: &mut Reader, levels: u32) -> Result<Initia
     }
 }
 
+/// A declarator: a name, a length, an initialiser.
 fn declarator(alloc: Global, reader: &mut Reader, levels: u32) -> Result<Declarator, Stop>
     ensures { Told declarator_marks result (read_declarator (levels_left levels) reader.old)
         reader.new }
@@ -188,6 +196,7 @@ fn declarator(alloc: Global, reader: &mut Reader, levels: u32) -> Result<Declara
     })
 }
 
+/// A declarator after a comma.
 fn next_declarator(
     alloc: Global,
     reader: &mut Reader,
@@ -204,6 +213,7 @@ fn next_declarator(
     })
 }
 
+/// Declarators, each after a comma.
 fn next_declarators(
     alloc: Global,
     reader: &mut Reader,
@@ -228,7 +238,7 @@ fn next_declarators(
 ///
 /// # Errors
 ///
-/// The reading's own, and want of memory.
+/// [`Stop::Syntax`] or [`Stop::TooDeep`] as reading by the grammar stops; [`Stop::Memory`]: out of memory.
 pub fn declarators(alloc: Global, reader: &mut Reader, levels: u32) -> Result<Declarators, Stop>
     ensures { Told declarators_marks result (read_declarators (levels_left levels) reader.old)
         reader.new }
@@ -239,6 +249,7 @@ pub fn declarators(alloc: Global, reader: &mut Reader, levels: u32) -> Result<De
     Ok(Declarators { all })
 }
 
+/// Puts the first declarator, which has no comma, before the others.
 #[tactic(auto, using(crate::proofs::Repeats::each_front))]
 fn put_first(all: &mut Vec<ListedDeclarator>, first: Declarator) -> Result<(), Stop>
     ensures { MatchResult result (λ _. joined (map listed_declarator_marks all.new.items)
@@ -255,12 +266,12 @@ fn put_first(all: &mut Vec<ListedDeclarator>, first: Declarator) -> Result<(), S
     Ok(())
 }
 
-/// What a declaration of a file or of a block begins with: the words of a type, and the constants of an enumerated
-/// type among them. `static` is accepted where `with_static` says so.
+/// The words at the front of a declaration of a file or a block, with the constants of an enumerated type
+/// among them. `static` is accepted if `with_static` is true.
 ///
 /// # Errors
 ///
-/// The reading's own, and want of memory.
+/// [`Stop::Syntax`] or [`Stop::TooDeep`] as reading by the grammar stops; [`Stop::Memory`]: out of memory.
 pub fn specifiers(
     alloc: Global,
     reader: &mut Reader,
@@ -322,6 +333,7 @@ fn enumerated(
     }
 }
 
+/// The enumeration constants between braces, if they follow.
 fn maybe_enumerators(
     alloc: Global,
     reader: &mut Reader,
@@ -338,7 +350,7 @@ fn maybe_enumerators(
     Ok(Some(list))
 }
 
-/// A tag, if there is one, behind these words. The one error is want of memory.
+/// A tag, if there is one, after these words. The only error is out of memory.
 fn put_tag(words: &mut Vec<Token>, tag: Option<Token>) -> Result<(), Stop>
     ensures { MatchResult result
         (λ _. map leaf words.new.items ≡ map leaf words.old.items ++ optional_leaf tag)
@@ -361,7 +373,7 @@ fn enumerators(alloc: Global, reader: &mut Reader, levels: u32) -> Result<Enumer
     Ok(Enumerators { open, list, close })
 }
 
-/// What stands between the braces of an enumerated type.
+/// What is between the braces of an enumerated type.
 fn inner_enumerators(
     alloc: Global,
     reader: &mut Reader,
@@ -376,6 +388,7 @@ fn inner_enumerators(
     enumerator_list(alloc, reader, levels - 1)
 }
 
+/// Enumeration constants with commas between, and maybe one after the last.
 fn enumerator_list(alloc: Global, reader: &mut Reader, levels: u32) -> Result<EnumeratorList, Stop>
     ensures { Told enumerator_list_marks result
         (read_enumerator_list (levels_left levels) reader.old) reader.new }
@@ -386,6 +399,7 @@ fn enumerator_list(alloc: Global, reader: &mut Reader, levels: u32) -> Result<En
     Ok(EnumeratorList { first, rest, comma })
 }
 
+/// An enumeration constant, maybe with its value.
 fn enumerator(alloc: Global, reader: &mut Reader, levels: u32) -> Result<Enumerator, Stop>
     ensures { Told enumerator_marks result (read_enumerator (levels_left levels) reader.old)
         reader.new }
@@ -395,6 +409,7 @@ fn enumerator(alloc: Global, reader: &mut Reader, levels: u32) -> Result<Enumera
     Ok(Enumerator { name, value })
 }
 
+/// The value of an enumeration constant after `=`, if one follows.
 fn maybe_enumerator_value(
     alloc: Global,
     reader: &mut Reader,
@@ -412,6 +427,7 @@ fn maybe_enumerator_value(
     Ok(Some(EnumeratorValue { assign, value }))
 }
 
+/// An enumeration constant after a comma.
 fn next_enumerator(alloc: Global, reader: &mut Reader, levels: u32) -> Result<NextEnumerator, Stop>
     ensures { Told next_enumerator_marks result
         ((read_sign punct.Comma ▹ read_enumerator (levels_left levels)) reader.old) reader.new }
@@ -424,7 +440,7 @@ fn next_enumerator(alloc: Global, reader: &mut Reader, levels: u32) -> Result<Ne
     })
 }
 
-/// Constants, each after a comma; a comma before no name is the last.
+/// Constants, each after a comma. A comma before no name is the last one.
 fn next_enumerators(
     alloc: Global,
     reader: &mut Reader,
@@ -452,11 +468,11 @@ pub fn has_list(words: &Specifiers) -> bool
     words.enumerators.is_some()
 }
 
-/// Declarators, which may be absent behind the constants of an enumerated type.
+/// Declarators, which may be absent after the constants of an enumerated type.
 ///
 /// # Errors
 ///
-/// The reading's own, and want of memory.
+/// [`Stop::Syntax`] or [`Stop::TooDeep`] as reading by the grammar stops; [`Stop::Memory`]: out of memory.
 pub fn declared(
     alloc: Global,
     reader: &mut Reader,
@@ -478,7 +494,7 @@ pub fn declared(
 ///
 /// # Errors
 ///
-/// The reading's own, and want of memory.
+/// [`Stop::Syntax`] or [`Stop::TooDeep`] as reading by the grammar stops; [`Stop::Memory`]: out of memory.
 pub fn declaration(alloc: Global, reader: &mut Reader, levels: u32) -> Result<Declaration, Stop>
     ensures { Told declaration_marks result (read_declaration (levels_left levels) reader.old)
         reader.new }
@@ -494,6 +510,7 @@ pub fn declaration(alloc: Global, reader: &mut Reader, levels: u32) -> Result<De
     })
 }
 
+/// A name, if one follows.
 fn maybe_name(reader: &mut Reader) -> Result<Option<Token>, Stop>
     ensures { Told name_marks result
         (read_either (next_is (only class.Name)) read_name (read_node no_name read_nothing)
@@ -506,6 +523,7 @@ fn maybe_name(reader: &mut Reader) -> Result<Option<Token>, Stop>
     Ok(Some(name))
 }
 
+/// A parameter: its type, its name, its length.
 fn parameter(alloc: Global, reader: &mut Reader, levels: u32) -> Result<Parameter, Stop>
     ensures { Told parameter_marks result (read_parameter (levels_left levels) reader.old)
         reader.new }
@@ -520,6 +538,7 @@ fn parameter(alloc: Global, reader: &mut Reader, levels: u32) -> Result<Paramete
     })
 }
 
+/// A parameter after a comma.
 fn next_parameter(alloc: Global, reader: &mut Reader, levels: u32) -> Result<NextParameter, Stop>
     ensures { Told next_parameter_marks result
         ((read_sign punct.Comma ▹ read_parameter (levels_left levels)) reader.old) reader.new }
@@ -532,6 +551,7 @@ fn next_parameter(alloc: Global, reader: &mut Reader, levels: u32) -> Result<Nex
     })
 }
 
+/// Parameters, each after a comma.
 fn next_parameters(
     alloc: Global,
     reader: &mut Reader,
@@ -552,6 +572,7 @@ fn next_parameters(
     Ok(rest)
 }
 
+/// Parameters with commas between.
 fn parameter_list(alloc: Global, reader: &mut Reader, levels: u32) -> Result<ParameterList, Stop>
     ensures { Told parameter_list_marks result
         (read_listed (read_parameter (levels_left levels)) reader.old) reader.new }
@@ -561,6 +582,7 @@ fn parameter_list(alloc: Global, reader: &mut Reader, levels: u32) -> Result<Par
     Ok(ParameterList { first, rest })
 }
 
+/// The parameters of a function, if a type follows.
 fn parameters(alloc: Global, reader: &mut Reader, levels: u32) -> Result<Parameters, Stop>
     ensures { Told parameters_marks result (read_parameters (levels_left levels) reader.old)
         reader.new }
@@ -576,7 +598,7 @@ fn parameters(alloc: Global, reader: &mut Reader, levels: u32) -> Result<Paramet
 ///
 /// # Errors
 ///
-/// The reading's own, and want of memory.
+/// [`Stop::Syntax`] or [`Stop::TooDeep`] as reading by the grammar stops; [`Stop::Memory`]: out of memory.
 pub fn inner_parameters(alloc: Global, reader: &mut Reader, levels: u32) -> Result<Parameters, Stop>
     ensures { Told parameters_marks result (levels_left levels in_parameters reader.old)
         reader.new }
@@ -587,7 +609,7 @@ pub fn inner_parameters(alloc: Global, reader: &mut Reader, levels: u32) -> Resu
     parameters(alloc, reader, levels - 1)
 }
 
-/// The parameters where no level is left: none, or refused.
+/// The parameters if no level is left: none, or a refusal.
 fn no_parameters(reader: &Reader) -> Result<Parameters, Stop>
     ensures { Told parameters_marks result (shallow in_parameters reader.now) reader.now }
 {

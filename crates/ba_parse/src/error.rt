@@ -2,16 +2,17 @@
 
 use thiserror::Error;
 
-/// The first error of a list of tokens, or want of memory.
+/// The first error of a list of tokens, or out of memory.
 #[derive(Clone, Copy, Debug, PartialEq, Eq, Error)]
 pub enum ParseError {
-    /// The token of this number cannot follow those before it; or, at the count of tokens, more had to follow.
+    /// The token of this number, from 0, cannot follow those before it. At the count of tokens, more had to
+    /// follow.
     #[error("the token cannot stand here")]
     Syntax(usize),
-    /// More than a hundred constructs are around the token of this number.
+    /// More than 100 constructs are around the token of this number, from 0.
     #[error("too many constructs around the token")]
     TooDeep(usize),
-    /// There was no memory.
+    /// Out of memory.
     #[error("out of memory")]
     Memory,
 }

@@ -27,15 +27,17 @@ use std::alloc::Global;
 /// The level of the operators that bind loosest.
 const LOOSEST: u32 = 10;
 
+/// An opening parenthesis.
 const OPEN: TokenSet = TokenSet::Punct(Punct::OpenParenthesis);
 
+/// A closing parenthesis.
 const CLOSE: TokenSet = TokenSet::Punct(Punct::CloseParenthesis);
 
 /// An expression.
 ///
 /// # Errors
 ///
-/// The reading's own, and want of memory.
+/// [`Stop::Syntax`] or [`Stop::TooDeep`] as reading by the grammar stops; [`Stop::Memory`]: out of memory.
 #[cycle(expression)]
 pub fn conditional(alloc: Global, reader: &mut Reader, levels: u32) -> Result<Conditional, Stop>
     ensures { Told conditional_marks result (read_expression (levels_left levels) reader.old)
@@ -46,6 +48,7 @@ pub fn conditional(alloc: Global, reader: &mut Reader, levels: u32) -> Result<Co
     Ok(Conditional { test, branches })
 }
 
+/// Both values of a conditional operator, if a question mark follows.
 #[cycle(expression)]
 fn maybe_branches(alloc: Global, reader: &mut Reader, levels: u32) -> Result<Option<Branches>, Stop>
     ensures { Told (λ b. optional (option_map branches_marks b)) result
@@ -84,7 +87,7 @@ pub fn inner_expression(
     Ok(Box::new(alloc, expression)?)
 }
 
-/// Why a part that has no level left is refused, where it begins so.
+/// Why a part with no level left is refused: too many constructs, if the next token begins the part.
 pub fn refusal(reader: &Reader, starts: TokenSet) -> Stop
     ensures { result ≡ refusal (next_is (classes starts) reader.now) }
 {
@@ -95,6 +98,7 @@ pub fn refusal(reader: &Reader, starts: TokenSet) -> Stop
     }
 }
 
+/// A unary expression, with the operators of each level up to the loosest one after it.
 #[cycle(expression)]
 fn operand(alloc: Global, reader: &mut Reader, levels: u32, loosest: u32) -> Result<Operand, Stop>
     ensures { Told operand_marks result (read_operand (levels_left levels) loosest reader.old)
@@ -109,6 +113,7 @@ fn operand(alloc: Global, reader: &mut Reader, levels: u32, loosest: u32) -> Res
     Ok(Operand { first, chains })
 }
 
+/// Appends a chain, if there is one.
 #[tactic(auto, using(crate::proofs::Repeats::each_push))]
 fn push_some(chains: &mut Vec<Chain>, added: Option<Chain>) -> Result<(), Stop>
     ensures { MatchResult result (λ _. joined (map chain_marks chains.new.items)
@@ -121,6 +126,7 @@ fn push_some(chains: &mut Vec<Chain>, added: Option<Chain>) -> Result<(), Stop>
     Ok(())
 }
 
+/// The operators of a level with their right operands, if one follows.
 #[cycle(expression)]
 fn maybe_chain(
     alloc: Global,
@@ -168,6 +174,7 @@ fn chained(
     }
 }
 
+/// A unary expression: a sign before an operand, a cast, or a primary expression.
 #[cycle(expression)]
 fn unary(alloc: Global, reader: &mut Reader, levels: u32) -> Result<Unary, Stop>
     ensures { Told unary_marks result (read_unary (levels_left levels) reader.old) reader.new }
@@ -182,6 +189,7 @@ fn unary(alloc: Global, reader: &mut Reader, levels: u32) -> Result<Unary, Stop>
     }
 }
 
+/// A sign before its operand.
 #[cycle(expression)]
 fn prefixed(alloc: Global, reader: &mut Reader, levels: u32) -> Result<Unary, Stop>
     ensures { Told unary_marks result
@@ -193,6 +201,7 @@ fn prefixed(alloc: Global, reader: &mut Reader, levels: u32) -> Result<Unary, St
     Ok(Unary::Prefix { operator, operand })
 }
 
+/// A cast before its operand.
 #[cycle(expression)]
 fn cast(alloc: Global, reader: &mut Reader, levels: u32) -> Result<Unary, Stop>
     ensures { Told unary_marks result
@@ -211,6 +220,7 @@ fn cast(alloc: Global, reader: &mut Reader, levels: u32) -> Result<Unary, Stop>
     })
 }
 
+/// A unary expression inside one more construct.
 #[cycle(expression)]
 fn inner_unary(alloc: Global, reader: &mut Reader, levels: u32) -> Result<Box<Unary>, Stop>
     ensures { Told (λ u. unary_marks u.value) result (levels_left levels in_unary reader.old)
@@ -223,6 +233,7 @@ fn inner_unary(alloc: Global, reader: &mut Reader, levels: u32) -> Result<Box<Un
     Ok(Box::new(alloc, operand)?)
 }
 
+/// The words of a type inside one more construct.
 fn inner_type_name(alloc: Global, reader: &mut Reader, levels: u32) -> Result<TypeName, Stop>
     ensures { Told type_name_marks result (levels_left levels in_cast reader.old) reader.new }
 {
@@ -232,6 +243,7 @@ fn inner_type_name(alloc: Global, reader: &mut Reader, levels: u32) -> Result<Ty
     type_name(alloc, reader)
 }
 
+/// A primary expression: a name with what may follow it, a constant, or an expression in parentheses.
 #[cycle(expression)]
 fn primary(alloc: Global, reader: &mut Reader, levels: u32) -> Result<Primary, Stop>
     ensures { Told primary_marks result (read_primary (levels_left levels) reader.old) reader.new }
@@ -246,6 +258,7 @@ fn primary(alloc: Global, reader: &mut Reader, levels: u32) -> Result<Primary, S
     }
 }
 
+/// An expression in parentheses.
 #[cycle(expression)]
 fn parenthesized(alloc: Global, reader: &mut Reader, levels: u32) -> Result<Primary, Stop>
     ensures { Told primary_marks result
@@ -294,6 +307,7 @@ fn named(alloc: Global, reader: &mut Reader, levels: u32) -> Result<Primary, Sto
     }
 }
 
+/// The arguments of a call inside one more construct.
 #[cycle(expression)]
 pub fn inner_arguments(alloc: Global, reader: &mut Reader, levels: u32) -> Result<Arguments, Stop>
     ensures { Told arguments_marks result (levels_left levels in_arguments reader.old) reader.new }
@@ -304,7 +318,7 @@ pub fn inner_arguments(alloc: Global, reader: &mut Reader, levels: u32) -> Resul
     arguments(alloc, reader, levels - 1)
 }
 
-/// The arguments where no level is left: none, or refused.
+/// The arguments if no level is left: none, or a refusal.
 fn no_arguments(reader: &Reader) -> Result<Arguments, Stop>
     ensures { Told arguments_marks result (shallow in_arguments reader.now) reader.now }
 {
@@ -314,6 +328,7 @@ fn no_arguments(reader: &Reader) -> Result<Arguments, Stop>
     Ok(Arguments { values: None })
 }
 
+/// The arguments of a call, if an expression follows.
 #[cycle(expression)]
 fn arguments(alloc: Global, reader: &mut Reader, levels: u32) -> Result<Arguments, Stop>
     ensures { Told arguments_marks result (read_arguments (levels_left levels) reader.old)

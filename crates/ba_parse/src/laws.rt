@@ -7,7 +7,7 @@ ghost use Rattle.ba_trees.specs.FileMarks.{file_marks};
 ghost use Rattle.ba_trees.specs.Marks.{Mark};
 ghost use Rattle.ba_parse.specs.Files.{IsFile, Verdict, Says, Said};
 
-/// No list of tokens is that of two files, and two trees of one file are the same written out.
+/// Law: no list of tokens is that of two files, and two trees of one file are the same written out.
 pub fn one_tree()
     ensures written { (tokens : List Token) (tree other : List Mark) → IsFile tokens tree
         → IsFile tokens other → tree ≡ other }
@@ -16,8 +16,8 @@ pub fn one_tree()
         ≡ file_marks other }
 {}
 
-/// Of each list of tokens the grammar says one thing: it is a file's, with its tree; or it has its one syntax
-/// error; or it has its one token that is too deep.
+/// Law: the grammar says one thing of each list of tokens. It is a file's, with its tree; or it has its one
+/// syntax error; or its one token that is too deep.
 pub fn one_verdict()
     ensures some { (tokens : List Token) → Said tokens }
     ensures one { (tokens : List Token) (verdict other : Verdict) → Says tokens verdict

@@ -1,7 +1,7 @@
-//! From the tokens of a C program to its tree (C90 6.3 to 6.7).
+//! A recursive-descent parser for the profile of C (C90 6.3 to 6.7).
 //!
-//! [`parse`] reads the tokens of a file and gives the one tree of the grammar that has them, or the first token at which
-//! no file can go on, or the first around which too many constructs are.
+//! [`parse`] gives the one tree of the grammar with these tokens. Else it names the first token at which no
+//! file can go on, or the first with too many constructs around it.
 #![tactic(auto)]
 
 mod declarations;

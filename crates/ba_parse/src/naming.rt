@@ -14,14 +14,14 @@ fn is_named(parameter: &Parameter) -> bool
     parameter.name.is_some()
 }
 
-/// Whether the parameter behind a comma has a name.
+/// Whether the parameter after a comma has a name.
 fn next_is_named(next: &NextParameter) -> bool
     ensures { result ≡ not (has_unnamed (next_parameter_marks next.now)) }
 {
     is_named(&next.parameter)
 }
 
-/// Whether each of the parameters behind commas has a name.
+/// Whether each of the parameters after commas has a name.
 fn each_is_named(rest: &[NextParameter]) -> bool
     ensures { result ≡ list_all (λ next. not (has_unnamed (next_parameter_marks next))) rest.now }
 {

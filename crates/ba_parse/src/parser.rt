@@ -11,7 +11,7 @@ ghost use Rattle.ba_trees.specs.Views.{joined};
 ghost use Rattle.ba_trees.specs.DeclarationMarks.{parameters_marks};
 ghost use Rattle.ba_trees.specs.ExternalMarks.{end_marks, external_form_marks, external_marks};
 ghost use Rattle.ba_parse.specs.Outcomes.{written};
-ghost use Rattle.ba_parse.specs.Outcomes.{outcome_of, place_of};
+ghost use Rattle.ba_parse.specs.Outcomes.{outcome_of, token_number};
 ghost use Rattle.ba_parse.specs.Files.{Verdict, Says};
 ghost use Rattle.ba_trees.specs.Marks.{has_accepted_levels};
 ghost use Rattle.ba_parse.specs.Told.{IsTold, result_of};
@@ -32,25 +32,29 @@ use std::alloc::Global;
 /// How many constructs may be around a token.
 pub const MAX_LEVEL: u32 = 100;
 
+/// An opening parenthesis.
 const OPEN: TokenSet = TokenSet::Punct(Punct::OpenParenthesis);
 
+/// A closing parenthesis.
 const CLOSE: TokenSet = TokenSet::Punct(Punct::CloseParenthesis);
 
+/// A semicolon.
 const SEMICOLON: TokenSet = TokenSet::Punct(Punct::Semicolon);
 
+/// A word of a declaration at the level of the file.
 const EXTERNAL_WORD: TokenSet = TokenSet::DeclarationWord { with_static: true };
 
-/// The one tree of the grammar whose yield is the tokens, which are the leaves of the tree (C90 6.3 to 6.7).
+/// The one tree of the grammar whose leaves are the tokens (C90 6.3 to 6.7).
 ///
 /// # Errors
 ///
-/// The number in an error is that of a token, from 0, or the count of tokens for the end of the list. Of two causes
-/// the one with the smaller number is answered, and `Syntax` where both fall on one token.
+/// The number in an error is that of a token, from 0, or the count of tokens for the end of the list. Of two
+/// causes the smaller number is answered, and `Syntax` if both have the same.
 ///
-/// - [`ParseError::Syntax`]: the least number such that no file's tokens begin with the tokens up to this one; or, at
-///   the end, the list begins a file's tokens and is no file's.
+/// - [`ParseError::Syntax`]: the least number such that no file's tokens begin with the tokens up to this
+///   one. At the end, the list begins a file's tokens and is no file's.
 /// - [`ParseError::TooDeep`]: the least number of a token with more than [`MAX_LEVEL`] constructs around it.
-/// - [`ParseError::Memory`]: want of memory.
+/// - [`ParseError::Memory`]: out of memory.
 pub fn parse(alloc: Global, tokens: &[Token]) -> Result<RawProgram, ParseError>
     ensures told { IsTold tokens.now (written result) }
     ensures only { (verdict : Verdict) → Says tokens.now verdict
@@ -59,7 +63,7 @@ pub fn parse(alloc: Global, tokens: &[Token]) -> Result<RawProgram, ParseError>
     whole_file(alloc, tokens)
 }
 
-/// The tree of a file, or where its reading stops.
+/// The tree of a file, or the error at the token at which reading stops.
 fn whole_file(alloc: Global, tokens: &[Token]) -> Result<RawProgram, ParseError>
     ensures { (result ≡ Err Memory)
         ⊎ (written result ≡ outcome_of tokens.now (read_file (levels_left 100) tokens.now)) }
@@ -67,31 +71,32 @@ fn whole_file(alloc: Global, tokens: &[Token]) -> Result<RawProgram, ParseError>
     let mut reader = Reader::new(tokens);
     match externals(alloc, &mut reader, MAX_LEVEL) {
         Ok(all) => file_of(all, tokens, reader.rest()),
-        Err(Stop::Syntax) => Err(ParseError::Syntax(place_of(tokens, reader.rest()))),
-        Err(Stop::TooDeep) => Err(ParseError::TooDeep(place_of(tokens, reader.rest()))),
+        Err(Stop::Syntax) => Err(ParseError::Syntax(token_number(tokens, reader.rest()))),
+        Err(Stop::TooDeep) => Err(ParseError::TooDeep(token_number(tokens, reader.rest()))),
         Err(Stop::Memory) => Err(ParseError::Memory),
     }
 }
 
-/// The file, where nothing is left after what was read.
+/// The file, if no token follows what was read.
 fn file_of(all: Vec<External>, tokens: &[Token], rest: &[Token]) -> Result<RawProgram, ParseError>
     requires { has_accepted_levels (node_of file (joined (map external_marks all.items))) ≡ true }
     ensures { written result ≡ outcome_of tokens.now
         (done (node_of file (joined (map external_marks all.items))) rest.now) }
 {
     match rest.split_first() {
-        Some(_) => Err(ParseError::Syntax(place_of(tokens, rest))),
+        Some(_) => Err(ParseError::Syntax(token_number(tokens, rest))),
         None => Ok(RawProgram { externals: all }),
     }
 }
 
-/// The number of the first token of `rest`, which stands at the end of the tokens.
-fn place_of(tokens: &[Token], rest: &[Token]) -> usize
-    ensures { result ≡ place_of tokens.now rest.now }
+/// The number of the first token of `rest`, which is the end of `tokens`.
+fn token_number(tokens: &[Token], rest: &[Token]) -> usize
+    ensures { result ≡ token_number tokens.now rest.now }
 {
     tokens.len().saturating_sub(rest.len())
 }
 
+/// Declarations and functions, as long as a word of a declaration follows.
 fn externals(alloc: Global, reader: &mut Reader, levels: u32) -> Result<Vec<External>, Stop>
     ensures { Told (λ v. joined (map external_marks v.items)) result
         (read_many (next_is (declaration_word true)) (read_external (levels_left levels))
@@ -108,6 +113,7 @@ fn externals(alloc: Global, reader: &mut Reader, levels: u32) -> Result<Vec<Exte
     Ok(all)
 }
 
+/// A declaration or a function.
 fn external(alloc: Global, reader: &mut Reader, levels: u32) -> Result<External, Stop>
     ensures { Told external_marks result (read_external (levels_left levels) reader.old)
         reader.new }
@@ -121,7 +127,7 @@ fn external(alloc: Global, reader: &mut Reader, levels: u32) -> Result<External,
     })
 }
 
-/// What follows the words of an external, with the constants of an enumerated type among them or without.
+/// What follows the words of an external declaration, which may list the constants of an enumerated type.
 fn external_form(
     alloc: Global,
     reader: &mut Reader,
@@ -140,7 +146,7 @@ fn external_form(
     }
 }
 
-/// Variables of the file, which may be absent behind the constants of an enumerated type.
+/// Variables of the file, which may be absent after the constants of an enumerated type.
 fn variables(
     alloc: Global,
     reader: &mut Reader,
@@ -159,6 +165,7 @@ fn variables(
     })
 }
 
+/// A function from its name on.
 fn function(alloc: Global, reader: &mut Reader, levels: u32) -> Result<ExternalForm, Stop>
     ensures { Told external_form_marks result (read_function_tail (levels_left levels) reader.old)
         reader.new }
@@ -187,7 +194,7 @@ fn takes_block(parameters: &Parameters, before: &[Token], after: &[Token]) -> bo
     are_named(parameters) || is_void(before, after)
 }
 
-/// Whether `void` alone stands from `before` to `after`.
+/// Whether the tokens from `before` to `after` are `void` alone.
 fn is_void(before: &[Token], after: &[Token]) -> bool
     ensures told { (ts : List Token) → ts ++ after.now ≡ before.now → result ≡ is_void ts }
 {
@@ -198,6 +205,7 @@ fn is_void(before: &[Token], after: &[Token]) -> bool
     }
 }
 
+/// A body, if it may follow, or a semicolon.
 fn function_end(
     alloc: Global,
     reader: &mut Reader,

@@ -13,14 +13,14 @@ use ba_trees::class::class_of;
 use std::alloc::{AllocError, AllocFailed};
 use std::marker::Model;
 
-/// Why nothing more is read. The reader then stands at the refused token.
+/// Why reading stops. The reader is then at the refused token.
 #[derive(Clone, Copy, Debug, PartialEq, Eq)]
 pub enum Stop {
     /// The token can't follow the tokens before it.
     Syntax,
-    /// Too many constructs are around the token.
+    /// More than 100 constructs are around the token.
     TooDeep,
-    /// There was no memory.
+    /// Out of memory.
     Memory,
 }
 
@@ -46,7 +46,7 @@ impl<T: Drop> From<AllocFailed<T>> for Stop {
     }
 }
 
-/// A reader of tokens. Contracts see the tokens that are left.
+/// A reader of tokens. A contract sees the tokens that are left.
 #[derive(Drop)]
 pub struct Reader<'a> {
     rest: &'a [Token],
@@ -121,6 +121,7 @@ impl<'a> Reader<'a> {
     }
 }
 
+/// Whether the token is in the set.
 fn set_holds(set: TokenSet, token: &Token) -> bool
     ensures { result ≡ classes set (class_of token.now) }
 {

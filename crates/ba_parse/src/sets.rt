@@ -17,7 +17,7 @@ pub enum TokenSet {
     Quoted,
     Keyword(Keyword),
     Punct(Punct),
-    /// The words of a declaration; `static` only where it is accepted.
+    /// The words of a declaration; `static` only if it is accepted.
     DeclarationWord { with_static: bool },
     /// The signs before an operand.
     PrefixSign,
@@ -71,12 +71,14 @@ impl TokenSet {
     }
 }
 
+/// Whether the class is that of this keyword.
 fn is_word(class: TokenClass, keyword: Keyword) -> bool
     ensures { result ≡ word keyword class }
 {
     class == TokenClass::Keyword(keyword)
 }
 
+/// Whether the class is that of this punctuator.
 fn is_mark(class: TokenClass, punct: Punct) -> bool
     ensures { result ≡ mark punct class }
 {
@@ -97,7 +99,7 @@ pub fn is_type_word(class: TokenClass) -> bool
         || is_word(class, Keyword::Enum)
 }
 
-/// Whether this is a word of a declaration; `static` only where it is accepted.
+/// Whether this is a word of a declaration; `static` only if it is accepted.
 pub fn is_declaration_word(class: TokenClass, with_static: bool) -> bool
     ensures { result ≡ declaration_word with_static class }
 {
@@ -106,6 +108,7 @@ pub fn is_declaration_word(class: TokenClass, with_static: bool) -> bool
         || (with_static && is_word(class, Keyword::Static))
 }
 
+/// Whether the class is a sign of a unary operator.
 fn is_prefix_sign(class: TokenClass) -> bool
     ensures { result ≡ prefix_sign class }
 {
@@ -115,12 +118,14 @@ fn is_prefix_sign(class: TokenClass) -> bool
         || is_mark(class, Punct::Exclamation)
 }
 
+/// Whether the class is `++` or `--`.
 fn is_step_sign(class: TokenClass) -> bool
     ensures { result ≡ step_sign class }
 {
     is_mark(class, Punct::Increment) || is_mark(class, Punct::Decrement)
 }
 
+/// Whether the class is the sign of an assignment.
 fn is_assign_sign(class: TokenClass) -> bool
     ensures { result ≡ assign_sign class }
 {
@@ -137,6 +142,7 @@ fn is_assign_sign(class: TokenClass) -> bool
         || is_mark(class, Punct::ShiftRightAssign)
 }
 
+/// Whether the class is a sign of a binary operator of this level, 1 to 10, the tightest first.
 fn is_operator(class: TokenClass, level: u32) -> bool
     ensures { result ≡ operator level class }
 {
@@ -157,6 +163,7 @@ fn is_operator(class: TokenClass, level: u32) -> bool
     }
 }
 
+/// Whether the class is `<`, `<=`, `>` or `>=`.
 fn is_comparison(class: TokenClass) -> bool
     ensures { result ≡ operator 4 class }
 {
@@ -166,6 +173,7 @@ fn is_comparison(class: TokenClass) -> bool
         || is_mark(class, Punct::GreaterEqual)
 }
 
+/// Whether an expression may begin with the class.
 fn starts_operand(class: TokenClass) -> bool
     ensures { result ≡ operand_start class }
 {
@@ -175,12 +183,14 @@ fn starts_operand(class: TokenClass) -> bool
         || is_prefix_sign(class)
 }
 
+/// Whether an assignment, step or call may begin with the class.
 fn starts_simple(class: TokenClass) -> bool
     ensures { result ≡ simple_start class }
 {
     class == TokenClass::Name || is_step_sign(class)
 }
 
+/// Whether a statement may begin with the class.
 fn starts_statement(class: TokenClass) -> bool
     ensures { result ≡ statement_start class }
 {
@@ -199,6 +209,7 @@ fn starts_statement(class: TokenClass) -> bool
         || is_word(class, Keyword::Printf)
 }
 
+/// Whether a label of a `switch` may begin with the class.
 fn starts_label(class: TokenClass) -> bool
     ensures { result ≡ label_start class }
 {

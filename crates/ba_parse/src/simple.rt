@@ -1,4 +1,5 @@
-//! Reading assignments, steps and calls, and what stands between the parentheses of a statement (C90 6.3.2, 6.3.16, 6.6.5).
+//! Reading assignments, steps and calls, and what is between the parentheses of a statement (C90 6.3.2,
+//! 6.3.16, 6.6.5).
 //!
 //! `levels` is how many more constructs may be around a token.
 
@@ -27,16 +28,22 @@ use ba_trees::tree::statements::{
 };
 use std::alloc::Global;
 
+/// An opening parenthesis.
 const OPEN: TokenSet = TokenSet::Punct(Punct::OpenParenthesis);
 
+/// A closing parenthesis.
 const CLOSE: TokenSet = TokenSet::Punct(Punct::CloseParenthesis);
 
+/// A colon.
 const COLON: TokenSet = TokenSet::Punct(Punct::Colon);
 
+/// A comma.
 const COMMA: TokenSet = TokenSet::Punct(Punct::Comma);
 
+/// A semicolon.
 const SEMICOLON: TokenSet = TokenSet::Punct(Punct::Semicolon);
 
+/// The left side of an assignment: a name, maybe with an index.
 fn target(alloc: Global, reader: &mut Reader, levels: u32) -> Result<Target, Stop>
     ensures { Told target_marks result (read_target (levels_left levels) reader.old) reader.new }
 {
@@ -45,6 +52,7 @@ fn target(alloc: Global, reader: &mut Reader, levels: u32) -> Result<Target, Sto
     Ok(Target { name, index })
 }
 
+/// An index in square brackets, if one follows.
 fn maybe_index(alloc: Global, reader: &mut Reader, levels: u32) -> Result<Option<Index>, Stop>
     ensures { Told (λ i. optional (option_map index_marks i)) result
         (read_maybe (mark punct.OpenBracket) (read_bracketed (levels_left levels) in_expression)
@@ -63,7 +71,7 @@ fn maybe_index(alloc: Global, reader: &mut Reader, levels: u32) -> Result<Option
 ///
 /// # Errors
 ///
-/// The reading's own, and want of memory.
+/// [`Stop::Syntax`] or [`Stop::TooDeep`] as reading by the grammar stops; [`Stop::Memory`]: out of memory.
 pub fn simple(alloc: Global, reader: &mut Reader, levels: u32) -> Result<Simple, Stop>
     ensures { Told simple_marks result (read_simple (levels_left levels) reader.old) reader.new }
 {
@@ -76,6 +84,7 @@ pub fn simple(alloc: Global, reader: &mut Reader, levels: u32) -> Result<Simple,
     }
 }
 
+/// A `++` or `--` before its variable or element.
 fn prefix_step(alloc: Global, reader: &mut Reader, levels: u32) -> Result<Simple, Stop>
     ensures { Told simple_marks result
         (read_node simple (read_token step_sign ▹ read_target (levels_left levels)) reader.old)
@@ -89,6 +98,7 @@ fn prefix_step(alloc: Global, reader: &mut Reader, levels: u32) -> Result<Simple
     })
 }
 
+/// A call as a statement.
 fn called(alloc: Global, reader: &mut Reader, levels: u32) -> Result<Simple, Stop>
     ensures { Told simple_marks result
         (read_node simple (read_name ▹ read_parenthesized (levels_left levels) in_arguments)
@@ -106,6 +116,7 @@ fn called(alloc: Global, reader: &mut Reader, levels: u32) -> Result<Simple, Sto
     })
 }
 
+/// An assignment, or `++` or `--` after its variable or element.
 fn assigned(alloc: Global, reader: &mut Reader, levels: u32) -> Result<Simple, Stop>
     ensures { Told simple_marks result
         (read_node simple (read_target (levels_left levels) ▹ read_either (next_is step_sign)
@@ -130,6 +141,7 @@ fn assigned(alloc: Global, reader: &mut Reader, levels: u32) -> Result<Simple, S
     }
 }
 
+/// An assignment, step or call after a comma.
 fn next_simple(alloc: Global, reader: &mut Reader, levels: u32) -> Result<ListedSimple, Stop>
     ensures { Told listed_simple_marks result
         ((read_sign punct.Comma ▹ read_simple (levels_left levels)) reader.old) reader.new }
@@ -142,6 +154,7 @@ fn next_simple(alloc: Global, reader: &mut Reader, levels: u32) -> Result<Listed
     })
 }
 
+/// Assignments, steps and calls, each after a comma.
 fn next_simples(alloc: Global, reader: &mut Reader, levels: u32) -> Result<Vec<ListedSimple>, Stop>
     ensures { Told (λ v. joined (map listed_simple_marks v.items)) result
         (read_many (next_is (mark punct.Comma))
@@ -158,6 +171,7 @@ fn next_simples(alloc: Global, reader: &mut Reader, levels: u32) -> Result<Vec<L
     Ok(rest)
 }
 
+/// Assignments, steps and calls with commas between.
 fn simples(alloc: Global, reader: &mut Reader, levels: u32) -> Result<Simples, Stop>
     ensures { Told simples_marks result (read_simples (levels_left levels) reader.old) reader.new }
 {
@@ -167,6 +181,7 @@ fn simples(alloc: Global, reader: &mut Reader, levels: u32) -> Result<Simples, S
     Ok(Simples { all })
 }
 
+/// Puts the first one, which has no comma, before the others.
 #[tactic(auto, using(crate::proofs::Repeats::each_front))]
 fn put_first(all: &mut Vec<ListedSimple>, first: Simple) -> Result<(), Stop>
     ensures { MatchResult result (λ _. joined (map listed_simple_marks all.new.items)
@@ -183,6 +198,7 @@ fn put_first(all: &mut Vec<ListedSimple>, first: Simple) -> Result<(), Stop>
     Ok(())
 }
 
+/// Assignments, steps and calls, if one follows.
 fn maybe_simples(alloc: Global, reader: &mut Reader, levels: u32) -> Result<Option<Simples>, Stop>
     ensures { Told (λ s. optional (option_map simples_marks s)) result
         (read_maybe simple_start (read_simples (levels_left levels)) reader.old) reader.new }
@@ -198,7 +214,7 @@ fn maybe_simples(alloc: Global, reader: &mut Reader, levels: u32) -> Result<Opti
 ///
 /// # Errors
 ///
-/// The reading's own, and want of memory.
+/// [`Stop::Syntax`] or [`Stop::TooDeep`] as reading by the grammar stops; [`Stop::Memory`]: out of memory.
 pub fn condition(alloc: Global, reader: &mut Reader, levels: u32) -> Result<Condition, Stop>
     ensures { Told condition_marks result (read_condition (levels_left levels) reader.old)
         reader.new }
@@ -213,7 +229,7 @@ pub fn condition(alloc: Global, reader: &mut Reader, levels: u32) -> Result<Cond
 ///
 /// # Errors
 ///
-/// The reading's own, and want of memory.
+/// [`Stop::Syntax`] or [`Stop::TooDeep`] as reading by the grammar stops; [`Stop::Memory`]: out of memory.
 pub fn label(alloc: Global, reader: &mut Reader, levels: u32) -> Result<Label, Stop>
     ensures { Told label_marks result (read_label (levels_left levels) reader.old) reader.new }
 {
@@ -233,6 +249,7 @@ pub fn label(alloc: Global, reader: &mut Reader, levels: u32) -> Result<Label, S
     }
 }
 
+/// The first part of a `for` head: a declaration, assignments, steps and calls, or nothing.
 fn for_first(alloc: Global, reader: &mut Reader, levels: u32) -> Result<ForFirst, Stop>
     ensures { Told for_first_marks result (read_for_first (levels_left levels) reader.old)
         reader.new }
@@ -249,6 +266,7 @@ fn for_first(alloc: Global, reader: &mut Reader, levels: u32) -> Result<ForFirst
     }
 }
 
+/// What is between the parentheses of a `for`.
 fn for_head(alloc: Global, reader: &mut Reader, levels: u32) -> Result<ForHead, Stop>
     ensures { Told for_head_marks result (read_for_head (levels_left levels) reader.old)
         reader.new }
@@ -271,7 +289,7 @@ fn for_head(alloc: Global, reader: &mut Reader, levels: u32) -> Result<ForHead, 
 ///
 /// # Errors
 ///
-/// The reading's own, and want of memory.
+/// [`Stop::Syntax`] or [`Stop::TooDeep`] as reading by the grammar stops; [`Stop::Memory`]: out of memory.
 pub fn inner_for_head(alloc: Global, reader: &mut Reader, levels: u32) -> Result<ForHead, Stop>
     ensures { Told for_head_marks result (levels_left levels in_for reader.old) reader.new }
 {
@@ -281,6 +299,7 @@ pub fn inner_for_head(alloc: Global, reader: &mut Reader, levels: u32) -> Result
     for_head(alloc, reader, levels - 1)
 }
 
+/// Further strings of a format, side by side with the first.
 fn next_strings(alloc: Global, reader: &mut Reader) -> Result<Vec<Token>, Stop>
     ensures { Told (λ v. map leaf v.items) result
         (read_many (next_is (only class.Quoted)) (read_token (only class.Quoted)) reader.old)
@@ -298,6 +317,7 @@ fn next_strings(alloc: Global, reader: &mut Reader) -> Result<Vec<Token>, Stop>
     Ok(rest)
 }
 
+/// What is between the parentheses of a `printf`: the format, then expressions.
 fn printed(alloc: Global, reader: &mut Reader, levels: u32) -> Result<Printed, Stop>
     ensures { Told printed_marks result (read_printed (levels_left levels) reader.old) reader.new }
 {
@@ -315,7 +335,7 @@ fn printed(alloc: Global, reader: &mut Reader, levels: u32) -> Result<Printed, S
 ///
 /// # Errors
 ///
-/// The reading's own, and want of memory.
+/// [`Stop::Syntax`] or [`Stop::TooDeep`] as reading by the grammar stops; [`Stop::Memory`]: out of memory.
 pub fn inner_printed(alloc: Global, reader: &mut Reader, levels: u32) -> Result<Printed, Stop>
     ensures { Told printed_marks result (levels_left levels in_printf reader.old) reader.new }
 {

@@ -24,17 +24,20 @@ use ba_trees::tree::statements::{
 };
 use std::alloc::Global;
 
+/// An opening parenthesis.
 const OPEN: TokenSet = TokenSet::Punct(Punct::OpenParenthesis);
 
+/// A closing parenthesis.
 const CLOSE: TokenSet = TokenSet::Punct(Punct::CloseParenthesis);
 
+/// A semicolon.
 const SEMICOLON: TokenSet = TokenSet::Punct(Punct::Semicolon);
 
 /// A block.
 ///
 /// # Errors
 ///
-/// The reading's own, and want of memory.
+/// [`Stop::Syntax`] or [`Stop::TooDeep`] as reading by the grammar stops; [`Stop::Memory`]: out of memory.
 #[cycle(statement)]
 pub fn block(alloc: Global, reader: &mut Reader, levels: u32) -> Result<Block, Stop>
     ensures { Told block_marks result (read_block (levels_left levels) reader.old) reader.new }
@@ -45,7 +48,7 @@ pub fn block(alloc: Global, reader: &mut Reader, levels: u32) -> Result<Block, S
     Ok(Block { open, items, close })
 }
 
-/// What stands between the braces of a block.
+/// What is between the braces of a block.
 #[cycle(statement)]
 fn inner_items(alloc: Global, reader: &mut Reader, levels: u32) -> Result<Vec<BlockItem>, Stop>
     ensures { Told (λ v. joined (map item_marks v.items)) result
@@ -57,7 +60,7 @@ fn inner_items(alloc: Global, reader: &mut Reader, levels: u32) -> Result<Vec<Bl
     items(alloc, reader, levels - 1)
 }
 
-/// The items where no level is left: none, or refused.
+/// The items if no level is left: none, or refused.
 fn no_items(alloc: Global, reader: &Reader) -> Result<Vec<BlockItem>, Stop>
     ensures { Told (λ v. joined (map item_marks v.items)) result (shallow in_block reader.now)
         reader.now }
@@ -68,6 +71,7 @@ fn no_items(alloc: Global, reader: &Reader) -> Result<Vec<BlockItem>, Stop>
     Ok(Vec::new(alloc))
 }
 
+/// The items of a block, as long as a token follows that begins one.
 #[cycle(statement)]
 fn items(alloc: Global, reader: &mut Reader, levels: u32) -> Result<Vec<BlockItem>, Stop>
     ensures { Told (λ v. joined (map item_marks v.items)) result
@@ -85,6 +89,7 @@ fn items(alloc: Global, reader: &mut Reader, levels: u32) -> Result<Vec<BlockIte
     Ok(all)
 }
 
+/// An item of a block: a declaration or a statement.
 #[cycle(statement)]
 fn item(alloc: Global, reader: &mut Reader, levels: u32) -> Result<BlockItem, Stop>
     ensures { Told item_marks result (read_item (levels_left levels) reader.old) reader.new }
@@ -111,6 +116,7 @@ fn controlled(alloc: Global, reader: &mut Reader, levels: u32) -> Result<Control
     controlled_by_another(alloc, body)
 }
 
+/// A statement that another one controls, on the heap.
 fn controlled_by_another(alloc: Global, body: Statement) -> Result<Controlled, Stop>
     ensures { MatchResult result (λ c. controlled_marks c ≡ one_deeper (statement_marks body))
         (λ stop. stop ≡ Memory) }
@@ -119,6 +125,7 @@ fn controlled_by_another(alloc: Global, body: Statement) -> Result<Controlled, S
     Ok(Controlled { statement })
 }
 
+/// A statement.
 #[cycle(statement)]
 fn statement(alloc: Global, reader: &mut Reader, levels: u32) -> Result<Statement, Stop>
     ensures { Told statement_marks result (read_statement (levels_left levels) reader.old)
@@ -128,6 +135,7 @@ fn statement(alloc: Global, reader: &mut Reader, levels: u32) -> Result<Statemen
     Ok(Statement { form })
 }
 
+/// A statement, by its first token.
 #[cycle(statement)]
 fn statement_form(alloc: Global, reader: &mut Reader, levels: u32) -> Result<StatementForm, Stop>
     ensures { Told form_marks result (read_statement_form (levels_left levels) reader.old)
@@ -146,6 +154,7 @@ fn statement_form(alloc: Global, reader: &mut Reader, levels: u32) -> Result<Sta
     }
 }
 
+/// An assignment, step or call with its semicolon.
 fn simple_statement(alloc: Global, reader: &mut Reader, levels: u32) -> Result<StatementForm, Stop>
     ensures { Told form_marks result
         ((read_simple (levels_left levels) ▹ read_semicolon) reader.old) reader.new }
@@ -158,6 +167,7 @@ fn simple_statement(alloc: Global, reader: &mut Reader, levels: u32) -> Result<S
     })
 }
 
+/// A statement that begins with a keyword.
 #[cycle(statement)]
 fn keyword_statement(alloc: Global, reader: &mut Reader, levels: u32) -> Result<StatementForm, Stop>
     ensures { Told form_marks result (read_keyword_statement (levels_left levels) reader.old)
@@ -178,6 +188,7 @@ fn keyword_statement(alloc: Global, reader: &mut Reader, levels: u32) -> Result<
     }
 }
 
+/// An `if`, maybe with an `else`.
 #[cycle(statement)]
 fn if_statement(alloc: Global, reader: &mut Reader, levels: u32) -> Result<StatementForm, Stop>
     ensures { Told form_marks result (read_if (levels_left levels) reader.old) reader.new }
@@ -194,6 +205,7 @@ fn if_statement(alloc: Global, reader: &mut Reader, levels: u32) -> Result<State
     })
 }
 
+/// An `else` branch, if one follows.
 #[cycle(statement)]
 fn maybe_else(alloc: Global, reader: &mut Reader, levels: u32) -> Result<Option<Else>, Stop>
     ensures { Told (λ e. or_no_else (option_map else_marks e)) result
@@ -229,7 +241,7 @@ fn switch_statement(alloc: Global, reader: &mut Reader, levels: u32) -> Result<S
     })
 }
 
-/// What stands between the braces of a `switch`.
+/// What is between the braces of a `switch`.
 #[cycle(statement)]
 fn inner_groups(alloc: Global, reader: &mut Reader, levels: u32) -> Result<Vec<Group>, Stop>
     ensures { Told (λ v. joined (map group_marks v.items)) result
@@ -241,7 +253,7 @@ fn inner_groups(alloc: Global, reader: &mut Reader, levels: u32) -> Result<Vec<G
     groups(alloc, reader, levels - 1)
 }
 
-/// The labels and their statements where no level is left: none, or refused.
+/// The labels and their statements if no level is left: none, or refused.
 fn no_groups(alloc: Global, reader: &Reader) -> Result<Vec<Group>, Stop>
     ensures { Told (λ v. joined (map group_marks v.items)) result (shallow in_groups reader.now)
         reader.now }
@@ -252,6 +264,7 @@ fn no_groups(alloc: Global, reader: &Reader) -> Result<Vec<Group>, Stop>
     Ok(Vec::new(alloc))
 }
 
+/// The groups of a `switch`, as long as a label follows.
 #[cycle(statement)]
 fn groups(alloc: Global, reader: &mut Reader, levels: u32) -> Result<Vec<Group>, Stop>
     ensures { Told (λ v. joined (map group_marks v.items)) result
@@ -283,6 +296,7 @@ fn group(alloc: Global, reader: &mut Reader, levels: u32) -> Result<Group, Stop>
     })
 }
 
+/// Statements, as long as a token follows that begins one.
 #[cycle(statement)]
 fn statements(alloc: Global, reader: &mut Reader, levels: u32) -> Result<Vec<Statement>, Stop>
     ensures { Told (λ v. joined (map statement_marks v.items)) result
@@ -301,6 +315,7 @@ fn statements(alloc: Global, reader: &mut Reader, levels: u32) -> Result<Vec<Sta
     Ok(all)
 }
 
+/// A `while`.
 #[cycle(statement)]
 fn while_statement(alloc: Global, reader: &mut Reader, levels: u32) -> Result<StatementForm, Stop>
     ensures { Told form_marks result (read_while (levels_left levels) reader.old) reader.new }
@@ -315,6 +330,7 @@ fn while_statement(alloc: Global, reader: &mut Reader, levels: u32) -> Result<St
     })
 }
 
+/// A `do`.
 #[cycle(statement)]
 fn do_statement(alloc: Global, reader: &mut Reader, levels: u32) -> Result<StatementForm, Stop>
     ensures { Told form_marks result (read_do (levels_left levels) reader.old) reader.new }
@@ -333,6 +349,7 @@ fn do_statement(alloc: Global, reader: &mut Reader, levels: u32) -> Result<State
     }))
 }
 
+/// What is between the parentheses of a `for`, on the heap.
 fn boxed_head(alloc: Global, reader: &mut Reader, levels: u32) -> Result<Box<ForHead>, Stop>
     ensures { Told (λ h. for_head_marks h.value) result (levels_left levels in_for reader.old)
         reader.new }
@@ -341,6 +358,7 @@ fn boxed_head(alloc: Global, reader: &mut Reader, levels: u32) -> Result<Box<For
     Ok(Box::new(alloc, head)?)
 }
 
+/// A `for`.
 #[cycle(statement)]
 fn for_statement(alloc: Global, reader: &mut Reader, levels: u32) -> Result<StatementForm, Stop>
     ensures { Told form_marks result (read_for (levels_left levels) reader.old) reader.new }
@@ -388,6 +406,7 @@ fn keyword_alone(reader: &mut Reader, kind: Keyword) -> Result<(Token, Token), S
     Ok((keyword, semicolon))
 }
 
+/// A `return`, maybe with a value.
 fn return_statement(alloc: Global, reader: &mut Reader, levels: u32) -> Result<StatementForm, Stop>
     ensures { Told form_marks result
         ((read_key keyword.Return ▹ maybe_expression (levels_left levels) ▹ read_semicolon)
@@ -403,6 +422,7 @@ fn return_statement(alloc: Global, reader: &mut Reader, levels: u32) -> Result<S
     })
 }
 
+/// An `assert`.
 fn assert_statement(alloc: Global, reader: &mut Reader, levels: u32) -> Result<StatementForm, Stop>
     ensures { Told form_marks result
         ((read_key keyword.Assert ▹ read_condition (levels_left levels) ▹ read_semicolon)
@@ -418,6 +438,7 @@ fn assert_statement(alloc: Global, reader: &mut Reader, levels: u32) -> Result<S
     })
 }
 
+/// A `printf`.
 fn printf_statement(alloc: Global, reader: &mut Reader, levels: u32) -> Result<StatementForm, Stop>
     ensures { Told form_marks result (read_printf (levels_left levels) reader.old) reader.new }
 {

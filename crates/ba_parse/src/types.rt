@@ -22,8 +22,8 @@ use std::alloc::Global;
 ///
 /// # Errors
 ///
-/// `Syntax` at the first word that does not agree with those before it, after the words where none names a type,
-/// or behind `enum` where no name comes next; want of memory.
+/// `Syntax` at the first word that does not agree with those before it. It is after the words if none names a
+/// type, and after `enum` if no name comes next. `Memory` if memory runs out.
 pub fn type_name(alloc: Global, reader: &mut Reader) -> Result<TypeName, Stop>
     ensures { Told type_name_marks result (read_type_words reader.old) reader.new }
 {
@@ -35,7 +35,7 @@ pub fn type_name(alloc: Global, reader: &mut Reader) -> Result<TypeName, Stop>
     Ok(TypeName { words })
 }
 
-/// The tag behind `enum`, and the words that are still to come.
+/// The tag after `enum`, and the qualifiers after it.
 fn tag_words(alloc: Global, reader: &mut Reader, words: &[Token]) -> Result<Vec<Token>, Stop>
     ensures { Told (λ v. map leaf v.items) result
         ((read_name ▹ read_qualifiers_behind false (map leaf words.now)) reader.old) reader.new }
@@ -45,11 +45,11 @@ fn tag_words(alloc: Global, reader: &mut Reader, words: &[Token]) -> Result<Vec<
     with_first(tag, behind)
 }
 
-/// `const` and `static` where they are not among these words, and `static` is accepted.
+/// `const` and `static` if they are not among these words, and `static` is accepted.
 ///
 /// # Errors
 ///
-/// Want of memory.
+/// Out of memory.
 pub fn qualifiers_behind(
     alloc: Global,
     reader: &mut Reader,
@@ -64,6 +64,7 @@ pub fn qualifiers_behind(
     qualifiers_left(alloc, reader, with_const, static_left)
 }
 
+/// `const` and `static` after a tag, each at most once.
 fn qualifiers_left(
     alloc: Global,
     reader: &mut Reader,
@@ -86,7 +87,7 @@ fn qualifiers_left(
     }
 }
 
-/// `const` and `static`, in any order, where they come next.
+/// `const` and `static`, in any order, if they come next.
 fn both_qualifiers(alloc: Global, reader: &mut Reader) -> Result<Vec<Token>, Stop>
     ensures { Told (λ v. map leaf v.items) result (read_qualifiers_left true true reader.old)
         reader.new }
@@ -104,7 +105,7 @@ fn both_qualifiers(alloc: Global, reader: &mut Reader) -> Result<Vec<Token>, Sto
     }
 }
 
-/// This keyword, where it comes next.
+/// This keyword, if it comes next.
 fn maybe_word(alloc: Global, reader: &mut Reader, keyword: Keyword) -> Result<Vec<Token>, Stop>
     ensures { Told (λ v. map leaf v.items) result
         (read_maybe (word keyword) (read_key keyword) reader.old) reader.new }
@@ -116,7 +117,7 @@ fn maybe_word(alloc: Global, reader: &mut Reader, keyword: Keyword) -> Result<Ve
     Ok(found)
 }
 
-/// A token before these. The one error is want of memory.
+/// The tokens with another one before them. The only error is out of memory.
 fn with_first(first: Token, mut behind: Vec<Token>) -> Result<Vec<Token>, Stop>
     ensures { MatchResult result (λ v. v.items ≡ first ∷ behind.items) (λ stop. stop ≡ Memory) }
 {
@@ -131,24 +132,26 @@ pub fn has_word(words: &[Token], keyword: Keyword) -> bool
     some_is(words, keyword)
 }
 
+/// Whether one of the words is this keyword.
 fn some_is(words: &[Token], keyword: Keyword) -> bool
     ensures { result ≡ list_any (λ t. word keyword (class_of t)) words.now }
 {
     words.iter().any(|token| is_keyword(token, keyword))
 }
 
+/// Whether the token is this keyword.
 fn is_keyword(token: &Token, keyword: Keyword) -> bool
     ensures { result ≡ word keyword (class_of token.now) }
 {
     class_of(token) == TokenClass::Keyword(keyword)
 }
 
-/// The words of a type, the last of which may be `enum`. `static` is accepted where `with_static` says so.
+/// The words of a type, the last of which may be `enum`. `static` is accepted if `with_static` is true.
 ///
 /// # Errors
 ///
-/// `Syntax` at the first word that does not agree with those before it, or after the words where none names a
-/// type; want of memory.
+/// `Syntax` at the first word that does not agree with those before it, or after the words, if none names a
+/// type. `Memory` if memory runs out.
 pub fn specifier_words(
     alloc: Global,
     reader: &mut Reader,
@@ -181,6 +184,7 @@ fn next_word(reader: &mut Reader, before: &[TokenClass], with_static: bool) -> R
     reader.take(TokenSet::DeclarationWord { with_static })
 }
 
+/// Whether the next token agrees with words of these classes.
 fn agrees_with(before: &[TokenClass], rest: &[Token]) -> bool
     ensures { result ≡ agrees_with before.now rest.now }
 {
@@ -190,18 +194,21 @@ fn agrees_with(before: &[TokenClass], rest: &[Token]) -> bool
     }
 }
 
+/// Whether the class agrees with each of the words before.
 fn agree_all(before: &[TokenClass], class: TokenClass) -> bool
     ensures { result ≡ list_all (λ c. agree c class) before.now }
 {
     before.iter().all(|before| agree(*before, class))
 }
 
+/// Whether one of the words names a type.
 fn some_names_type(words: &[TokenClass]) -> bool
     ensures { result ≡ list_any type_word words.now }
 {
     words.iter().any(|class| is_type_word(*class))
 }
 
+/// Whether two words may be in one type, in this order.
 fn agree(first: TokenClass, second: TokenClass) -> bool
     ensures { result ≡ agree first second }
 {
@@ -224,6 +231,7 @@ fn excludes(first: TokenClass, second: TokenClass) -> bool
             && second == TokenClass::Keyword(Keyword::Unsigned))
 }
 
+/// Whether the word is `short`, `int` or `long`.
 fn is_length_word(class: TokenClass) -> bool
     ensures { result ≡ (word keyword.Short or word keyword.Int or word keyword.Long) class }
 {

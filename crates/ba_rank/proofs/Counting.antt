@@ -11,7 +11,7 @@ use Rattle.ba_rank.specs.Counts.{entry_of, is_named, is_of_same, once_if, times_
 use Rattle.ba_rank.specs.Ranking.{stands_in}
 use Rattle.ba_rank.specs.declared.ranking.Ranked.{Ranked}
 
--- WHAT IS NAMED stands in the list
+-- WHAT IS NAMED is in the list
 
 same_tests : (a b : Bool) → (a ≡ true → b ≡ true) → (b ≡ true → a ≡ true) → a ≡ b
 same_tests true true to back = refl
@@ -99,14 +99,14 @@ distinct-once n (x ∷ xs) distinct =
     by later none true same = omega (arith, times-cons n x xs true same, none same)
     by later none false other = omega (arith, times-cons n x xs false other, later)
 
--- THE SETS of a list, one behind the other
+-- THE SETS of a list, one after the other
 
 pub stands-named : (n : ℕ) (sets : List (List ℕ)) → is_named n (flat_map (λ set. set) sets) ≡ stands_in n sets
 stands-named n [] = refl
 stands-named n (set ∷ sets) = list_any-append (λ m. n == m) set (flat_map (λ set. set) sets)
     ∙ ap (λ b. is_named n set || b) (stands-named n sets)
 
--- NUMBERS BELOW A LIMIT stand before the others
+-- NUMBERS BELOW A LIMIT are before the others
 
 pub count_at : (p : ℕ → Bool) (xs : List ℕ) (i : ℕ) → i ≤ length xs
     → ((k d : ℕ) → 0 ≤ k → k < i → p (get_or xs k d) ≡ true)

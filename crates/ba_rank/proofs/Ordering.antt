@@ -108,7 +108,7 @@ first_same x y xs ys in_xs in_ys (inr h) (inl e) = sym e
 first_same x y xs ys in_xs in_ys (inr h) (inr k) = absurd
     (Precedes-asymmetric x y (head_precedes x y xs in_xs k) (head_precedes y x ys in_ys h))
 
--- what stands behind the first of one list stands behind the first of the other
+-- what follows the first of one list is after the first of the other
 rest_has : (x y entry : Ranked) (xs ys : List Ranked) → x ≡ y → AllPairs Precedes (x ∷ xs) → Has xs entry
     → Has (y ∷ ys) entry → Has ys entry
 rest_has x y entry xs ys e in_xs h (inl is_y) =

@@ -25,7 +25,7 @@ named-more n lists i sets numbers others more within is so_far one joined =
     ap (λ ss. once_if (stands_in n ss)) is in
     omega (arith, whole, next, same, so_far, one)
 
--- each number that is named stands once in a list
+-- each number that is named occurs once in a list
 abbrev pub AreNamed : List ℕ → List ℕ → Type 0
 AreNamed named numbers = (n : ℕ) → times_named n numbers ≡ once_if (is_named n named)
 

@@ -1,7 +1,7 @@
-//! The ranking of statements over several inputs.
+//! Ranking of suspicious statements over several failing inputs, by counting.
 //!
-//! A failing input has a list of least sets of statements, each of which could repair its run. [`rank`] orders
-//! the statements by the number of inputs that have them in such a set.
+//! Each failing input has a list of least sets of statements, each of which could repair its run. [`rank`]
+//! orders the statements by the number of inputs that have them in such a set.
 #![tactic(auto)]
 
 pub mod laws;

@@ -17,7 +17,7 @@ pub struct Ranked {
     pub inputs: u32,
 }
 
-/// All numbers of the sets, one set behind the other.
+/// All numbers of the sets, one set after the other.
 fn all_of(alloc: Global, sets: &[Items<u32>]) -> Result<Vec<u32>, AllocError>
     ensures { IfOk result (λ numbers. numbers.items ≡ flat_map (λ set. set) sets.now) }
 {
@@ -28,7 +28,7 @@ fn all_of(alloc: Global, sets: &[Items<u32>]) -> Result<Vec<u32>, AllocError>
     Ok(numbers)
 }
 
-/// Leaves each number once.
+/// Removes repeated numbers.
 fn leave_once(numbers: &mut Vec<u32>)
     ensures once { (n : ℕ) →
         times_named n numbers.new.items ≡ once_if (is_named n numbers.old.items) }
@@ -38,7 +38,7 @@ fn leave_once(numbers: &mut Vec<u32>)
     numbers.dedup();
 }
 
-/// The numbers that stand in some of the sets, each once.
+/// The numbers that are in some of the sets, each once.
 fn numbers_in(alloc: Global, sets: &[Items<u32>]) -> Result<Vec<u32>, AllocError>
     ensures { IfOk result (λ numbers. (n : ℕ) →
         times_named n numbers.items ≡ once_if (stands_in n sets.now)) }
@@ -48,7 +48,7 @@ fn numbers_in(alloc: Global, sets: &[Items<u32>]) -> Result<Vec<u32>, AllocError
     Ok(numbers)
 }
 
-/// The numbers that the lists name, each as often as there are lists that have it.
+/// The numbers in the lists, each once for each list that has it.
 fn named_by(alloc: Global, lists: &[Items<Items<u32>>]) -> Result<Vec<u32>, AllocError>
     ensures { IfOk result (λ numbers. (n : ℕ) →
         times_named n numbers.items ≡ lists_with n lists.now) }
@@ -61,7 +61,7 @@ fn named_by(alloc: Global, lists: &[Items<Items<u32>>]) -> Result<Vec<u32>, Allo
     Ok(numbers)
 }
 
-/// How many of the rising numbers are below this one.
+/// How many of the ascending numbers are below this one.
 fn count_below(numbers: &[u32], limit: u64) -> usize
     requires { IsNonDecreasing numbers.now }
     ensures { result ≡ count_by (λ n. nat_lt n limit) numbers.now }
@@ -69,7 +69,7 @@ fn count_below(numbers: &[u32], limit: u64) -> usize
     numbers.partition_point(|number| u64::from(*number) < limit)
 }
 
-/// How often a number stands among the rising numbers.
+/// How often a number is among the ascending numbers.
 fn times_named(numbers: &[u32], number: u32) -> usize
     requires { IsNonDecreasing numbers.now }
     ensures { result ≡ times_named number numbers.now }
@@ -78,9 +78,9 @@ fn times_named(numbers: &[u32], number: u32) -> usize
     count_below(numbers, number + 1) - count_below(numbers, number)
 }
 
-/// The entry of the statement of this number, by how often it stands among the rising numbers.
+/// The entry of the statement of this number, by how often it is among the ascending numbers.
 ///
-/// The one error is want of memory, also for a count past 32 bits.
+/// The only error is out of memory, also for a count past 32 bits.
 fn entry_of(numbers: &[u32], number: u32) -> Result<Ranked, AllocError>
     requires { IsNonDecreasing numbers.now }
     ensures { IfOk result (λ entry. entry ≡ entry_of numbers.now number) }
@@ -106,7 +106,7 @@ fn entries_of(alloc: Global, numbers: &[u32], named: &[u32]) -> Result<Vec<Ranke
     Ok(entries)
 }
 
-/// Puts entries into their order: by falling number of inputs, and then by rising statement.
+/// Puts entries in order: by falling number of inputs, and then by ascending statement.
 fn put_in_order(entries: &mut Vec<Ranked>)
     requires { IsDistinct is_of_same entries.old.items }
     ensures same { IsPermutation entries.old.items entries.new.items }
@@ -120,12 +120,13 @@ fn put_in_order(entries: &mut Vec<Ranked>)
     });
 }
 
-/// Ranks statements over several inputs. Each input has a list of sets, and each set the numbers of its statements.
+/// Ranks statements over several inputs. Each input has a list of sets, and each set the numbers of its
+/// statements.
 ///
-/// A statement that stands in some set has one entry, with the number of inputs that have it in some of their sets. The
-/// entries stand by falling number of inputs, and those of one number by rising statement.
+/// A statement that is in some set has one entry, with the number of inputs that have it in some of their
+/// sets. The entries come by falling number of inputs, and those of one number by ascending statement.
 ///
-/// The one error is want of memory.
+/// The only error is out of memory, also for a count past 32 bits.
 pub fn rank(alloc: Global, lists: &[Items<Items<u32>>]) -> Result<Items<Ranked>, AllocError>
     ensures { IfOk result (IsRanking lists.now) }
 {

@@ -4,7 +4,7 @@ use Rattle.std.specs.Prelude.{ℕ, zero, suc, ◌-◌, List, [], length, take, d
 use Rattle.std.specs.List.{suffix_len}
 use Rattle.ba_bytes.specs.Classes.{is_blank}
 
--- a line, counted from 1; where there is no such line, nothing stands there
+-- a line, counted from 1; empty if there is no such line
 abbrev pub line_at : List (List ℕ) → ℕ → List ℕ
 line_at lines zero = []
 line_at lines (suc n) = slice_index_or lines n []
@@ -13,5 +13,6 @@ line_at lines (suc n) = slice_index_or lines n []
 abbrev pub trimmed_end : List ℕ → List ℕ
 trimmed_end line = take (length line - suffix_len is_blank line) line
 
+-- the line without blanks at its ends
 abbrev pub trimmed : List ℕ → List ℕ
 trimmed line = trimmed_end (drop (length (take_while is_blank line)) line)

@@ -1,7 +1,7 @@
-//! The report: the text that names the least sets of a program.
+//! The report generator: the text that names the least sets of a program.
 //!
-//! Each set has a line for each of its statements, with position, kind and source line, and may have
-//! one for a run that is good for it. [`report`] makes the text of a verdict.
+//! Each set has a line for each of its statements, with position, kind and source line, and may have a line
+//! for a good run. [`report`] makes the text of a verdict.
 #![tactic(auto)]
 
 mod lines;
@@ -10,4 +10,4 @@ mod statements;
 
 pub use lines::Lines;
 pub use listing::report;
-pub use statements::{info_of, push_place, push_source};
+pub use statements::{info_of, push_source, push_statement_head};

@@ -9,7 +9,7 @@ use ba_bytes::classes::{is_blank, is_line_end};
 use std::alloc::{AllocError, Global};
 use std::marker::Model;
 
-/// The lines of a text, each without its line feed. Contracts see their list.
+/// The lines of a text, each without its line feed. A contract sees their list.
 #[derive(Drop)]
 pub struct Lines<'a> {
     lines: Vec<&'a [u8]>,
@@ -24,10 +24,10 @@ impl<'a> Model for Lines<'a> {
 }
 
 impl<'a> Lines<'a> {
-    /// Cuts the text into its lines, which end with line feeds. What stands after the last line feed is
-    /// a line too.
+    /// Cuts the text into its lines, which end with line feeds. What follows the last line feed is a line
+    /// too.
     ///
-    /// The one error is want of memory.
+    /// The only error is out of memory.
     pub fn new(alloc: Global, text: &'a [u8]) -> Result<Lines<'a>, AllocError>
         ensures { IfOk result (λ lines. lines ≡ lines_of text.now) }
     {
@@ -35,7 +35,7 @@ impl<'a> Lines<'a> {
         Ok(Lines { lines })
     }
 
-    /// A line, counted from 1; nothing where there is no such line.
+    /// A line, counted from 1; empty if there is no such line.
     pub fn at(&self, number: u32) -> &'a [u8]
         ensures { result.now ≡ line_at self.now number }
     {

@@ -8,15 +8,15 @@ ghost use Rattle.ba_report.specs.Report.{report_text, run_line, set_lines, sets_
 ghost use Rattle.ba_choices.specs.Judges.{Judge};
 
 use crate::lines::Lines;
-use crate::statements::{info_of, push_place, push_source};
+use crate::statements::{info_of, push_source, push_statement_head};
 use ba_choices::Choice;
 use ba_derivations::{FoundSet, Verdict};
 use ba_text::{push_choices, push_number};
 use ba_tree::tree::{Program, StmtInfo};
 use std::alloc::{AllocError, Global};
 
-/// What the lines of a report are written from: the lines of the source and the program that they
-/// spell, and whether each set has a line for its run.
+/// The material of a report: the lines of the source, the program that they spell, and whether each set has a
+/// line for its run.
 #[derive(Drop)]
 struct Listing<'a> {
     lines: Lines<'a>,
@@ -25,16 +25,16 @@ struct Listing<'a> {
 }
 
 impl Listing<'_> {
-    /// Adds the line of a statement.
+    /// Appends the line of a statement.
     fn push_info(&self, info: StmtInfo, text: &mut Vec<u8>) -> Result<(), AllocError>
         ensures { OnOk result (text.new.items ≡ text.old.items ++ info_line self.now.lines info) }
     {
         text.extend_from_slice(b"  ")?;
-        push_place(info, text)?;
+        push_statement_head(info, text)?;
         push_source(self.lines.at(info.at.line), text)
     }
 
-    /// Adds the line of the statement of this number.
+    /// Appends the line of the statement of this number.
     fn push_statement(&self, number: u32, text: &mut Vec<u8>) -> Result<(), AllocError>
         ensures { OnOk result (text.new.items
             ≡ text.old.items ++ statement_line self.now.lines self.now.program.now number) }
@@ -45,7 +45,7 @@ impl Listing<'_> {
         }
     }
 
-    /// Adds the lines of the statements of these numbers.
+    /// Appends the lines of the statements of these numbers.
     fn push_statements(&self, numbers: &[u32], text: &mut Vec<u8>) -> Result<(), AllocError>
         ensures { OnOk result (text.new.items ≡ text.old.items
             ++ flat_map (statement_line self.now.lines self.now.program.now) numbers.now) }
@@ -56,7 +56,7 @@ impl Listing<'_> {
         Ok(())
     }
 
-    /// Adds the lines of a set, which has this number.
+    /// Appends the lines of a set with this number.
     fn push_set(&self, number: u64, set: &[u32], text: &mut Vec<u8>) -> Result<(), AllocError>
         ensures { OnOk result (text.new.items ≡ text.old.items
             ++ set_lines self.now.lines self.now.program.now number set.now) }
@@ -67,7 +67,7 @@ impl Listing<'_> {
         self.push_statements(set, text)
     }
 
-    /// Adds the line of a run, where runs are shown.
+    /// Appends the line of a run, if runs are shown.
     fn push_run(&self, run: &[Choice], text: &mut Vec<u8>) -> Result<(), AllocError>
         ensures { OnOk result (text.new.items ≡ text.old.items ++ run_line self.now.runs run.now) }
     {
@@ -79,7 +79,7 @@ impl Listing<'_> {
         text.extend_from_slice(b"\n")
     }
 
-    /// Adds the lines of all sets, which are numbered from 1, with their runs.
+    /// Appends the lines of all sets, which are numbered from 1, with their runs.
     fn push_sets(&self, sets: &[FoundSet], text: &mut Vec<u8>) -> Result<(), AllocError>
         ensures { OnOk result (text.new.items ≡ text.old.items
             ++ sets_lines self.now.lines self.now.program.now self.now.runs 1 sets.now) }
@@ -108,11 +108,12 @@ impl Listing<'_> {
     }
 }
 
-/// The report of a verdict on the program that the source text spells: a line with the weight and the
-/// number of the least sets, and for each set a line, one for each of its statements with position,
-/// kind and source line, and where `runs` is true one for its run.
+/// The report of a verdict on the program that the source text spells.
 ///
-/// The one error is want of memory.
+/// It has a line with the weight and the number of the least sets. Each set has a line, and one for each of
+/// its statements with position, kind and source line. If `runs` is true it has one for its run.
+///
+/// The only error is out of memory.
 pub fn report(
     alloc: Global,
     source: &[u8],
@@ -124,7 +125,7 @@ pub fn report(
     ensures text { (weight : ℕ) (found : List FoundSet) → verdict.now ≡ Verdict.Located weight found
         → IfOk result (λ bytes. bytes.items
         ≡ report_text source.now program.now runs weight found) }
-    // where each run that is shown is good for its set
+    // each run that is shown is good for its set
     ensures good { (good : Judge) (weight : ℕ) (found : List FoundSet)
         → verdict.now ≡ Verdict.Located weight found → (runs ≡ true → All (IsGood good) found)
         → IfOk result (λ bytes.

@@ -1,7 +1,7 @@
-//! The parts of a report's lines that tell of a statement.
+//! The parts of a statement's line in a report.
 
 ghost use Rattle.std.specs.Prelude.{◌≡◌, ◌++◌, OnOk};
-ghost use Rattle.ba_report.specs.Report.{kind_word, place_text, source_text};
+ghost use Rattle.ba_report.specs.Report.{kind_word, statement_head, source_text};
 ghost use Rattle.ba_tree.specs.Choices.{info_of};
 ghost use Rattle.ba_tree.specs.Least.{stmt_of};
 
@@ -26,7 +26,7 @@ fn kind_word(kind: StmtKind) -> &'static [u8]
     }
 }
 
-/// What the program says of the statement of this number, counted from 1.
+/// The kind and position of the statement of this number, counted from 1.
 pub fn info_of(program: &Program, number: u32) -> Option<StmtInfo>
     ensures { result ≡ info_of program.now (stmt_of number) }
 {
@@ -34,11 +34,11 @@ pub fn info_of(program: &Program, number: u32) -> Option<StmtInfo>
     program.statements.as_slice().get(place as usize).copied()
 }
 
-/// Adds the position and the kind of a statement: `L:K KIND`.
+/// Appends the position and the kind of a statement: `L:K KIND`.
 ///
-/// The one error is want of memory.
-pub fn push_place(info: StmtInfo, text: &mut Vec<u8>) -> Result<(), AllocError>
-    ensures { OnOk result (text.new.items ≡ text.old.items ++ place_text info) }
+/// The only error is out of memory.
+pub fn push_statement_head(info: StmtInfo, text: &mut Vec<u8>) -> Result<(), AllocError>
+    ensures { OnOk result (text.new.items ≡ text.old.items ++ statement_head info) }
 {
     push_number(u64::from(info.at.line), text)?;
     text.extend_from_slice(b":")?;
@@ -47,9 +47,9 @@ pub fn push_place(info: StmtInfo, text: &mut Vec<u8>) -> Result<(), AllocError>
     text.extend_from_slice(kind_word(info.kind))
 }
 
-/// Adds a source line without blanks at both ends, and a line feed: ` | TEXT`.
+/// Appends a source line without blanks at both ends, and a line feed: ` | TEXT`.
 ///
-/// The one error is want of memory.
+/// The only error is out of memory.
 pub fn push_source(line: &[u8], text: &mut Vec<u8>) -> Result<(), AllocError>
     ensures { OnOk result (text.new.items ≡ text.old.items ++ source_text line.now) }
 {

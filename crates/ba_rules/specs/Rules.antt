@@ -1,10 +1,10 @@
--- The rules of a search that a call is given.
+-- The rules of a search that a caller gives.
 
 use Rattle.std.specs.Prelude.{◌≡◌, ℕ, Bool, true, false}
 use Rattle.ba_search.specs.Rules.{IsKeepRule, IsRestartRule}
 
--- the restart rule of the pace that is wanted, steady or by Luby's sequence, and the keep rule may be asked
--- and answer as they should; nothing is asked of the other restart rule
+-- What is asked of the rules of a call. The wanted restart rule, steady or by Luby's sequence, and the keep
+-- rule may be asked and answer as they should. Nothing is asked of the other restart rule.
 pub record AreJobRules (is_steady : Bool) (may_ask_luby : ℕ → Type 0) (luby : ℕ → ℕ → Type 0)
     (may_ask_steady : ℕ → Type 0) (steady : ℕ → ℕ → Type 0)
     (may_ask_keep : ℕ → ℕ → Type 0) (keep : ℕ → ℕ → Bool → Type 0) : Type 0 where

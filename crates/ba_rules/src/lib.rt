@@ -1,4 +1,4 @@
-//! The rules of a search: when it restarts, and which learnt clauses it keeps. A caller may choose its own.
+//! Restart and clause-deletion policies of the search, which a caller may choose.
 #![tactic(auto)]
 
 pub mod rules;

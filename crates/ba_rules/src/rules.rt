@@ -1,5 +1,4 @@
-//! Rules of a search: those that a caller of the program may choose, and those of the program
-//! itself.
+//! Rules of a search: the type for those that a caller chooses, and the program's own.
 
 ghost use Rattle.std.specs.Prelude.{◌≡◌, true, false, ◌↔◌, ◌⊎◌, ℕ, ◌+◌, ◌*◌, ◌≤◌, ◌<◌, ◌^◌, IsTrue};
 ghost use Rattle.ba_search.specs.Rules.{IsKeepRule, IsRestartRule};
@@ -8,23 +7,23 @@ ghost use Rattle.ba_rules.specs.Rules.{AreJobRules};
 
 use ba_search::SearchRules;
 
-/// When a search restarts, and which learnt clauses it keeps. What the program promises holds for
-/// all such rules; how soon a search ends depends on them.
+/// The restart rules and the keep rule of a search. What the program promises holds for all such rules; how
+/// soon a search ends depends on them.
 #[derive(Drop)]
 pub struct Rules<L, G, K> {
-    /// How many conflicts the search has before it restarts, by the number of restarts so far,
-    /// where restarts follow Luby's sequence.
+    /// How many conflicts come before the next restart, by the number of restarts so far, if restarts follow
+    /// Luby's sequence.
     pub luby: L,
-    /// The same, where they come at a steady pace.
+    /// The same, if restarts come at a steady pace.
     pub steady: G,
-    /// Whether a learnt clause is kept, by its width and by its age, which is how many clauses were
-    /// learnt after it.
+    /// Whether a learnt clause is kept, by its width and its age. The age is how many clauses were learnt
+    /// after it.
     pub keep: K,
 }
 
 impl<L: Fn(u64) -> u64, G: Fn(u64) -> u64, K: Fn(u64, u64) -> bool> Rules<L, G, K> {
-    /// The rules that these functions are: each restart rule may be asked at every number of
-    /// restarts and answers at least 1, and the keep rule keeps clauses of at most two literals.
+    /// The rules of these functions. Each restart rule may be asked for every number of restarts, and answers
+    /// at least 1. The keep rule keeps clauses of at most two literals.
     pub fn new(luby: L, steady: G, keep: K) -> Rules<L, G, K>
         requires luby { IsRestartRule (L.pre luby) (L.post luby) }
         requires steady { IsRestartRule (G.pre steady) (G.post steady) }
@@ -37,11 +36,11 @@ impl<L: Fn(u64) -> u64, G: Fn(u64) -> u64, K: Fn(u64, u64) -> bool> Rules<L, G, 
     }
 }
 
-/// The rules of a call: those of its caller, and which restart rule its words ask for.
+/// The rules of a call: those of its caller, and the choice of the restart rule.
 #[derive(Drop)]
 pub struct CallRules<L, G, K> {
     pub rules: Rules<L, G, K>,
-    /// Whether restarts come at a steady pace, and not by Luby's sequence.
+    /// Whether restarts are steady, and not by Luby's sequence.
     pub is_steady: bool,
 }
 
@@ -104,8 +103,8 @@ fn luby_term(number: u64) -> u64
     }
 }
 
-/// Restarts by Luby's sequence, in hundreds of conflicts, and from a million restarts on after a
-/// hundred each.
+/// Restarts by Luby's sequence, in hundreds of conflicts. After a million restarts each comes after a hundred
+/// conflicts.
 pub fn luby(restarts: u64) -> u64
     ensures early { restarts < 1000000 → (term : ℕ) × IsLubyTerm (restarts + 1) term
         × (result ≡ 100 * term) }
@@ -126,7 +125,7 @@ pub fn steady(_restarts: u64) -> u64
     1000
 }
 
-/// Narrow clauses are kept, and young ones.
+/// Keeps narrow clauses, and young ones.
 pub fn keep(width: u64, age: u64) -> bool
     ensures { IsTrue result ↔ ((width ≤ 6) ⊎ (age < 4000)) }
 {

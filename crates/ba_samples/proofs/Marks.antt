@@ -133,7 +133,7 @@ last_token line = token line 1 (kind.Punct punct.CloseBrace)
 abbrev pub sample_marks : ℕ → List Mark
 sample_marks n = nested_marks (items_marks n) (last_token (3 + n + 1 + 1))
 
--- what stands behind the additions
+-- what follows the additions
 abbrev pub last_marks : ℕ → List Mark
 last_marks n = ending_marks (3 + n) (length (decimal (n + 1))) (n + 1)
     ++ closing_marks (last_token (3 + n + 1 + 1))

@@ -12,7 +12,7 @@ use Rattle.ba_tree_laws.proofs.TreeRuns.{is_assert_in}
 use Rattle.ba_samples.specs.Sample.{addition_info, info, sample_statements}
 use Rattle.ba_samples.proofs.Values.{le_or_lt}
 
--- READING a row of additions with others behind them
+-- READING a row of additions with others after them
 
 info_in : (count line i : ℕ) (rest : List StmtInfo) → i < count
     → slice_get (map addition_info (range_with_len line count) ++ rest) i ≡ Some (addition_info (line + i))

@@ -28,7 +28,7 @@ use Rattle.ba_samples.proofs.Statements.{relaxed, runs, standing, one_taken, ini
 use Rattle.ba_samples.proofs.Runs.{run_is}
 use Rattle.ba_samples.proofs.Numbered.{IsWeighed, no_assertion, repairing_weight, sample_weights, weighed}
 
--- WHAT IS RELAXED where these statements may be
+-- WHAT IS RELAXED if these statements may be
 
 other_number : (a b : ℕ) → (a ≡ b → ⊥) → (a == b) ≡ false
 other_number a b differ = grind (arith, nat_tests)

@@ -49,19 +49,19 @@ module _ (statements : List StmtInfo) (allowed : Allowed) (turns : ℕ) (calls :
   abbrev pub relaxed : ℕ → Bool
   relaxed stmt = is_relaxed_in setting [] (stmt_of stmt)
 
-  -- an assignment or initialiser of the variable, where this flag says whether it is relaxed
+  -- an assignment or initialiser of the variable, if this flag says whether it is relaxed
   abbrev setting_by : Bool → ℕ → ExprTree → List StmtTree → Execution
   setting_by admitted stmt e rest s = then_do
       (then_do (value_by_choice admitted (one_value I32) (eval_tree setting [] (stmt_of stmt) e) s)
       (set_value counter))
       (after_part (runs rest))
 
-  -- the same, where it has this value or traps
+  -- the same, if it has this value or traps
   abbrev with_sum : ℕ → List StmtTree → State → Option ℤ → Ending (Flow Exit)
   with_sum stmt rest s z =
       then_do (then_do (or_trap (stmt_of stmt) z s) (set_value counter)) (after_part (runs rest))
 
-  -- the same, where the choice has this value, or one that doesn't fit
+  -- the same, if the choice has this value, or one that doesn't fit
   abbrev with_choice : List StmtTree → State → Bool → ℤ → Ending (Flow Exit)
   with_choice rest s fits z =
       then_do (then_do (if_fitting (cond fits (Some z) None) s) (set_value counter)) (after_part (runs rest))
@@ -98,7 +98,7 @@ module _ (statements : List StmtInfo) (allowed : Allowed) (turns : ℕ) (calls :
       (λ k from to. written k (omega arith) (omega arith)) (omega arith)
       ∙ ap (λ w. runs rest (standing w choices)) (omega arith)
 
-  -- the addition of one number takes this value, and those behind it add to it
+  -- the addition of one number takes this value, and those after it add to it
   pub one_taken : (count stmt v s z w : ℕ) (choices : List Choice) (rest : List StmtTree)
       → stmt ≤ s → s < stmt + count → w + (s + 1) ≡ z + (stmt + count)
       → ((k : ℕ) → (s ≡ k → ⊥) → relaxed k ≡ false) → relaxed s ≡ true

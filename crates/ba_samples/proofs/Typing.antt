@@ -103,7 +103,7 @@ additions_read (suc count) line rest before outer =
     ∙ ap (λ is. read rest is outer) (append_one before (row.statement (addition_part line))
     (additions_row count (line + 1)))
 
--- the parts in the block, where so much stands behind the additions
+-- the parts in the block, if so much is after the additions
 parts_in : (count line : ℕ) (a b : Part) (t : Token)
     → items_of as_block_item
     (((additions_row count line ++ row.statement a ∷ []) ++ row.statement b ∷ []) ++ row.token t ∷ [])
@@ -152,7 +152,7 @@ main_signature = record {
   function = record { 0 = 0 };
 }
 
--- main's scope, before and behind the declaration
+-- main's scope, before and after the declaration
 abbrev first_scope : Scope
 first_scope = record {
   functions = main_signature ∷ [];

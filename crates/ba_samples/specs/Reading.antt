@@ -10,7 +10,7 @@ use Rattle.ba_trees.specs.Marks.{Mark}
 use Rattle.ba_trees.specs.declared.tree.statements.RawProgram.{RawProgram}
 use Rattle.ba_typing.specs.Files.{faults_of, typed_of}
 
--- The text has tokens, these are a file's, and each tree of that file has no fault and this typed program.
+-- The text has tokens, and these are a file's. Each tree of that file has no fault and this typed program.
 pub record IsReadAs (text : List ℕ) (program : ProgramTree) : Type 0 where
   pub tokens : List Token
   pub lexed : tokens_of text ≡ Ok tokens

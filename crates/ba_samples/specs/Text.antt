@@ -1,8 +1,9 @@
--- THE PROGRAM OF A SAMPLE: so many additions of 1, and an assertion that there was one more.
+-- THE PROGRAM OF A SAMPLE: additions of 1, and an assertion that there was one more.
 
 use Rattle.std.specs.Prelude.{ℕ, ◌+◌, List, ◌++◌, codes, decimal}
 use Rattle.std.specs.List.{repeat}
 
+-- the text of a sample with this many additions
 abbrev pub sample_text : ℕ → List ℕ
 sample_text additions =
     codes "int main(void) {\n    int s = 0;\n"

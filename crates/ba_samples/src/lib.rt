@@ -1,7 +1,7 @@
-//! Samples: programs of any size to try the tool on, and their laws: what program the text of a sample spells, and
-//! which sets of its statements could repair it.
+//! Sample programs of any size, and laws of them: which program the text spells, and which sets of its
+//! statements could repair it.
 //!
-//! Each law is a function whose clause it is, and which does nothing.
+//! Each law is the clause of a function that does nothing.
 #![tactic(auto)]
 
 ghost use Rattle.std.specs.Prelude.{◌≡◌, ℕ, ◌+◌, ◌*◌, ◌≤◌, List, Contains};
@@ -22,15 +22,15 @@ mod text;
 
 pub use text::sample_text;
 
-/// The text of a sample is read without a fault, and spells no program but that of the sample.
+/// Law: the text of a sample is read without a fault, and spells the sample's program and no other.
 pub fn sample_text_is_read()
     ensures reads { (n : ℕ) → n ≤ most_additions → IsReadAs (sample_text n) (sample_tree n) }
     ensures spells { (n : ℕ) (p : Program) → n ≤ most_additions → Spells (sample_text n) p
         → tree_of p ≡ sample_tree n }
 {}
 
-/// The program of a sample is small, and its assertion fails, whatever the input and the bounds. With equal weights its
-/// least sets are those of one statement each, of weight 1: the initialiser, and each addition.
+/// Law: the program of a sample is small, and its assertion fails, whatever the input and the bounds. With
+/// equal weights its least sets are sets of one statement of weight 1: the initialiser, and each addition.
 pub fn sample_is_repaired_by_one_statement()
     ensures units { (n : ℕ) (p : Program) → tree_of p ≡ sample_tree n
         → (b : Bounds) → units_of p b ≡ 2 * n + 4 }

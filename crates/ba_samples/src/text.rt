@@ -6,10 +6,10 @@ ghost use Rattle.ba_samples.specs.Text.{sample_text};
 use ba_text::push_number;
 use std::alloc::{AllocError, Global};
 
-/// The text of the program with so many additions, 1 to 500. Each could repair it alone, and so could
-/// its first statement.
+/// The text of the program with this many additions, 1 to 500. Each addition could repair it alone, and so
+/// could its first statement.
 ///
-/// The one error is want of memory.
+/// The only error is out of memory.
 pub fn sample_text(alloc: Global, additions: u32) -> Result<Vec<u8>, AllocError>
     requires { additions ≤ 500 }
     ensures { IfOk result (λ text. text.items ≡ sample_text additions) }

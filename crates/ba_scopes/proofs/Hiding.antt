@@ -5,8 +5,8 @@ use Rattle.std.proofs.Math.ListN.{get_or-map}
 use Rattle.std.proofs.Math.Seq.{take-append_seam}
 use Rattle.std.proofs.lemmas.List.{append-nil, length-map}
 use Rattle.ba_typing.specs.Names.{is_named, space_of}
-use Rattle.ba_scopes.specs.Storage.{AreStored, entries_of, last_place, newest_in, place_from}
-use Rattle.ba_scopes.specs.declared.places.Newest.{Newest}
+use Rattle.ba_scopes.specs.Storage.{AreStored, entries_of, last_number, newest_in, last_number_from}
+use Rattle.ba_scopes.specs.declared.number_maps.Newest.{Newest}
 use Rattle.ba_typing.specs.declared.meanings.Entry.{Entry}
 use Rattle.ba_typing.specs.declared.meanings.Space.{Space}
 use Rattle.ba_scopes.specs.declared.scopes.Stored.{Stored}
@@ -74,7 +74,8 @@ module _ (within : Space) (name : List ℕ) (test : Entry → Bool) where
   first-is i k e es last false same found none =
       inl (found, ap (λ c. (c && test e) || list_any mine es) same ∙ none)
 
-  last-is : (i : ℕ) (es : List Entry) (last : Option ℕ) (k : ℕ) → place_from i within name es last ≡ Some k
+  last-is : (i : ℕ) (es : List Entry) (last : Option ℕ) (k : ℕ) → last_number_from i within name es last ≡
+      Some k
       → ((last ≡ Some k) × (list_any mine es ≡ false)) ⊎ IsLast i es k
   last-is i [] last k found = inl (found, refl)
   last-is i (e ∷ es) last k found =
@@ -100,14 +101,14 @@ module _ (within : Space) (name : List ℕ) (test : Entry → Bool) where
         none,
   )
 
-  none-is : (i : ℕ) (es : List Entry) (last : Option ℕ) → place_from i within name es last ≡ None
+  none-is : (i : ℕ) (es : List Entry) (last : Option ℕ) → last_number_from i within name es last ≡ None
       → (last ≡ None) × (list_any mine es ≡ false)
   none-is i [] last found = (found, refl)
   none-is i (e ∷ es) last found = let h = none-is (i + 1) es (cond (is_named within name e) (Some i) last)
       found in
       none-first i e es last (is_named within name e) refl h.0 h.1
 
-  only-last : (es : List Entry) (k : ℕ) → last_place within name es ≡ Some k → IsLast 0 es k
+  only-last : (es : List Entry) (k : ℕ) → last_number within name es ≡ Some k → IsLast 0 es k
   only-last es k found = elim (last-is 0 es None k found) [
     | inl h ↦ absurd (let no_place : ⊥ = let e = h.0 in cc in no_place)
     | inr f ↦ f
@@ -116,9 +117,9 @@ module _ (within : Space) (name : List ℕ) (test : Entry → Bool) where
 -- THE WALK
 
 -- those of the name in the front part are what is left to look at, and decide for all
-pub record Hides (es : List Entry) (within : Space) (name : List ℕ) (test : Entry → Bool) (place : Option ℕ)
+pub record Hides (es : List Entry) (within : Space) (name : List ℕ) (test : Entry → Bool) (number : Option ℕ)
     (n : ℕ) : Type 0 where
-  pub newest : last_place within name (take n es) ≡ place
+  pub newest : last_number within name (take n es) ≡ number
   pub whole : list_any (λ (e : Entry). is_named within name e && test e) (take n es)
       ≡ list_any (λ (e : Entry). is_named within name e && test e) es
 
@@ -128,22 +129,23 @@ steps_left None = 0
 steps_left (Some i) = i + 1
 
 module _ (es : List Entry) (within : Space) (name : List ℕ) (test : Entry → Bool) where
-  pub hides-all : (place : Option ℕ) → place ≡ last_place within name es
-      → Hides es within name test place (length es)
-  hides-all place is =
+  pub hides-all : (number : Option ℕ) → number ≡ last_number within name es
+      → Hides es within name test number (length es)
+  hides-all number is =
       let all : take (length es) es ≡ es
       = ap (take (length es)) (sym (append-nil es)) ∙ take-append_seam es [] in
       record {
-        newest = ap (last_place within name) all ∙ sym is;
+        newest = ap (last_number within name) all ∙ sym is;
         whole = ap (list_any (λ (e : Entry). is_named within name e && test e)) all;
       }
 
-  pub hides-none : (n : ℕ) (place : Option ℕ) → place ≡ None → Hides es within name test place n
+  pub hides-none : (n : ℕ) (number : Option ℕ) → number ≡ None → Hides es within name test number n
       → false ≡ list_any (λ (e : Entry). is_named within name e && test e) es
-  hides-none n place none h = sym ((none-is within name test 0 (take n es) None (h.newest ∙ none)).1)
+  hides-none n number none h = sym ((none-is within name test 0 (take n es) None (h.newest ∙ none)).1)
       ∙ h.whole
 
-  module _ (n i : ℕ) (place : Option ℕ) (some : place ≡ Some i) (h : Hides es within name test place n) where
+  module _ (n i : ℕ) (number : Option ℕ) (some : number ≡ Some i)
+      (h : Hides es within name test number n) where
     last-one : IsLast within name test 0 (take n es) i
     last-one = only-last within name test (take n es) i (h.newest ∙ some)
 
@@ -179,18 +181,18 @@ module _ (es : List Entry) (within : Space) (name : List ℕ) (test : Entry → 
         any-here e is
 
     pub hides-next : (e : Entry) (hidden : Option ℕ) → e ≡ get_or es i e → test e ≡ false
-        → hidden ≡ last_place (space_of e.entity) e.name (take i es) → Hides es within name test hidden i
+        → hidden ≡ last_number (space_of e.entity) e.name (take i es) → Hides es within name test hidden i
     hides-next e hidden is fails hides =
         let mine = ap (is_named within name) (sym (here e is)) ∙ last-one.same e in
         record {
-          newest = ap (λ m. last_place within m (take i es)) (sym (named-name within name e mine))
-              ∙ ap (λ s. last_place s e.name (take i es)) (sym (named-space within name e mine)) ∙ sym hides;
+          newest = ap (λ m. last_number within m (take i es)) (sym (named-name within name e mine))
+              ∙ ap (λ s. last_number s e.name (take i es)) (sym (named-space within name e mine)) ∙ sym hides;
           whole = ap (λ b. b || list_any (λ (e : Entry). is_named within name e && test e) (take i es)) (sym
               fails)
               ∙ any-here e is;
         }
 
-  pub hides-falls : (i : ℕ) (place : Option ℕ) → Hides es within name test place i → steps_left place ≤ i
+  pub hides-falls : (i : ℕ) (number : Option ℕ) → Hides es within name test number i → steps_left number ≤ i
   hides-falls i None h = omega arith
   hides-falls i (Some j) h =
       let f = only-last within name test (take i es) j h.newest in
@@ -204,19 +206,19 @@ module _ (items : List Stored) (newest : Newest) (es : List Entry) (stored : Are
   pub as-long : length items ≡ length es
   as-long = sym (length-map items (λ (s : Stored). s.entry)) ∙ ap length view
 
-  pub hides-first : (within : Space) (name : List ℕ) (test : Entry → Bool) (place : Option ℕ)
-      → place ≡ newest_in newest within name
-      → Hides es within name test place (length es)
-  hides-first within name test place is = hides-all es within name test place
-      (is ∙ stored.found within name ∙ ap (last_place within name) view)
+  pub hides-first : (within : Space) (name : List ℕ) (test : Entry → Bool) (number : Option ℕ)
+      → number ≡ newest_in newest within name
+      → Hides es within name test number (length es)
+  hides-first within name test number is = hides-all es within name test number
+      (is ∙ stored.found within name ∙ ap (last_number within name) view)
 
   module _ (i : ℕ) (t : Stored) (within : i < length items) (is : t ≡ get_or items i t) where
     pub entry-at : t.entry ≡ get_or es i t.entry
     entry-at = ap (λ (s : Stored). s.entry) is ∙ sym (get_or-map (λ (s : Stored). s.entry) items i t)
         ∙ ap (λ xs. get_or xs i t.entry) view
 
-    pub hidden-at : t.hidden ≡ last_place (space_of t.entry.entity) t.entry.name (take i es)
+    pub hidden-at : t.hidden ≡ last_number (space_of t.entry.entity) t.entry.name (take i es)
     hidden-at = ap (λ (s : Stored). s.hidden) is ∙ stored.hides i t within
-        ∙ ap (λ (s : Stored). last_place (space_of s.entry.entity) s.entry.name (take i (entries_of items)))
+        ∙ ap (λ (s : Stored). last_number (space_of s.entry.entity) s.entry.name (take i (entries_of items)))
         (sym is)
-        ∙ ap (λ xs. last_place (space_of t.entry.entity) t.entry.name (take i xs)) view
+        ∙ ap (λ xs. last_number (space_of t.entry.entity) t.entry.name (take i xs)) view

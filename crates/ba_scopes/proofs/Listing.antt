@@ -5,8 +5,8 @@ use Rattle.std.proofs.Math.Bool.{or-false, or-true}
 use Rattle.std.proofs.lemmas.List.Folds.{list_any-append}
 use Rattle.std.proofs.lemmas.Option.{slice_get-get_or}
 use Rattle.ba_typing.specs.Names.{definition_in, is_declared_in, same_name}
-use Rattle.ba_scopes.specs.Storage.{AreCounted, AreListed, first_from, place_in}
-use Rattle.ba_scopes.specs.declared.places.Places.{Places}
+use Rattle.ba_scopes.specs.Storage.{AreCounted, AreListed, first_from, number_in}
+use Rattle.ba_scopes.specs.declared.number_maps.NumberMap.{NumberMap}
 use Rattle.ba_typing.specs.declared.meanings.Signature.{Signature}
 use Rattle.ba_typing.proofs.SignatureFacts.{count_one_more}
 use Rattle.ba_scopes.proofs.Storing.{at-front, behind-front, same-is, slice-past}
@@ -58,25 +58,26 @@ named-more : (same : Bool) (p : ℕ) (old : Option ℕ) (b : Bool) → is_some o
 named-more true p old b is = sym (or-true b)
 named-more false p old b is = is ∙ sym (or-false b)
 
-module _ (ds : List Signature) (names next defs more : Places) (listed : AreListed ds names defs) (name :
+module _ (ds : List Signature) (names next defs more : NumberMap) (listed : AreListed ds names defs) (name :
     List ℕ)
     (p : ℕ) where
   pub list-more : (s : Signature) (is_first : Bool) → s.name ≡ name → p ≡ length ds
-      → is_first ≡ (s.is_definition && not (is_some (place_in defs name)))
-      → ((other : List ℕ) → place_in more other ≡ cond (is_first && same_name name other) (Some p)
-      (place_in defs other))
-      → ((other : List ℕ) → place_in next other ≡ cond (same_name name other) (Some p) (place_in names other))
+      → is_first ≡ (s.is_definition && not (is_some (number_in defs name)))
+      → ((other : List ℕ) → number_in more other ≡ cond (is_first && same_name name other) (Some p)
+      (number_in defs other))
+      → ((other : List ℕ) → number_in next other ≡ cond (same_name name other) (Some p) (number_in names
+      other))
       → AreListed (ds ++ s ∷ []) next more
   list-more s is_first called number first define set = record {
     named = λ other. ap is_some (set other)
-        ∙ named-more (same_name name other) p (place_in names other) (is_declared_in ds other)
+        ∙ named-more (same_name name other) p (number_in names other) (is_declared_in ds other)
         (listed.named other)
         ∙ ap (λ n. is_declared_in ds other || (same_name n other || false)) (sym called)
         ∙ sym (list_any-append (λ (s : Signature). same_name s.name other) ds (s ∷ []));
     defined = λ other. define other
-        ∙ ap (λ b. cond (b && same_name name other) (Some p) (place_in defs other)) first
-        ∙ entered s.is_definition (same_name name other) p (place_in defs name) (place_in defs other)
-        (λ same. ap (place_in defs) (same-is name other same))
+        ∙ ap (λ b. cond (b && same_name name other) (Some p) (number_in defs other)) first
+        ∙ entered s.is_definition (same_name name other) p (number_in defs name) (number_in defs other)
+        (λ same. ap (number_in defs) (same-is name other same))
         ∙ ap (λ o. otherwise o (cond (s.is_definition && same_name name other) (Some p) None))
         (listed.defined other)
         ∙ ap (λ n. otherwise (first_from 0 other ds) (cond (s.is_definition && same_name n other) (Some p)
@@ -91,9 +92,9 @@ module _ (ds : List Signature) (names next defs more : Places) (listed : AreList
       zero-more = omega arith
 
 -- one declaration more is counted
-pub count-more : (ds : List Signature) (names next defs more : Places) (s : Signature) (name : List ℕ)
+pub count-more : (ds : List Signature) (names next defs more : NumberMap) (s : Signature) (name : List ℕ)
     (count total : ℕ) (is_declared : Bool) → AreCounted ds names defs count → s.name ≡ name
-    → is_declared ≡ is_some (place_in names name) → total ≡ count + cond is_declared 0 1
+    → is_declared ≡ is_some (number_in names name) → total ≡ count + cond is_declared 0 1
     → AreListed (ds ++ s ∷ []) next more → AreCounted (ds ++ s ∷ []) next more total
 count-more ds names next defs more s name count total is_declared so_far called declared one_more
     listed = record {
@@ -124,8 +125,8 @@ definition-from whole name (s ∷ ss) i left = let next : suc i ≡ i + 1 = omeg
     (definition-from whole name ss (i + 1) (subst (λ j. drop j whole ≡ ss) next (behind-front whole i s ss
     left)))
 
-module _ (ds : List Signature) (names defs : Places) (listed : AreListed ds names defs) (name : List ℕ)
-    (found : Option ℕ) (is : found ≡ place_in defs name) where
+module _ (ds : List Signature) (names defs : NumberMap) (listed : AreListed ds names defs) (name : List ℕ)
+    (found : Option ℕ) (is : found ≡ number_in defs name) where
   definition-is : option_and_then (slice_get ds) found ≡ definition_in ds name
   definition-is = ap (option_and_then (slice_get ds)) (is ∙ listed.defined name) ∙ definition-from ds name
       ds 0 refl

@@ -12,8 +12,8 @@ use Rattle.ba_numbers.specs.declared.ids.VarId.{VarId}
 use Rattle.ba_typing.proofs.Walks.{next_item, none_left}
 use Rattle.ba_typing.specs.Files.{var_in, vars_of}
 use Rattle.ba_typing.specs.Names.{is_named, last_entry, same_name, same_space, space_of}
-use Rattle.ba_scopes.specs.Storage.{AreStored, HasNewest, entries_of, last_place, newest_in, place_from}
-use Rattle.ba_scopes.specs.declared.places.Newest.{Newest}
+use Rattle.ba_scopes.specs.Storage.{AreStored, HasNewest, entries_of, last_number, newest_in, last_number_from}
+use Rattle.ba_scopes.specs.declared.number_maps.Newest.{Newest}
 use Rattle.ba_typing.specs.declared.meanings.Entry.{Entry}
 use Rattle.ba_typing.specs.declared.meanings.Space.{Space}
 use Rattle.ba_typing.specs.declared.meanings.Space.TheVariants as space
@@ -21,22 +21,24 @@ use Rattle.ba_scopes.specs.declared.scopes.Stored.{Stored}
 
 -- THE NUMBER OF THE LAST ENTRY OF A NAME
 
-place-push : (i : ℕ) (within : Space) (name : List ℕ) (es : List Entry) (e : Entry) (last : Option ℕ)
-    → place_from i within name (es ++ e ∷ []) last ≡ cond (is_named within name e) (Some (i + length es))
-    (place_from i within name es last)
-place-push i within name [] e last = let same : i ≡ i + 0 = omega arith in
+number-push : (i : ℕ) (within : Space) (name : List ℕ) (es : List Entry) (e : Entry) (last : Option ℕ)
+    → last_number_from i within name (es ++ e ∷ []) last ≡ cond (is_named within name e) (Some (i + length
+    es))
+    (last_number_from i within name es last)
+number-push i within name [] e last = let same : i ≡ i + 0 = omega arith in
     ap (λ n. cond (is_named within name e) (Some n) last) same
-place-push i within name (x ∷ es) e last = let same : i + 1 + length es ≡ i + suc (length es) = omega arith in
-    place-push (i + 1) within name es e (cond (is_named within name x) (Some i) last)
+number-push i within name (x ∷ es) e last =
+    let same : i + 1 + length es ≡ i + suc (length es) = omega arith in
+    number-push (i + 1) within name es e (cond (is_named within name x) (Some i) last)
     ∙ ap (λ n. cond (is_named within name e) (Some n)
-    (place_from (i + 1) within name es (cond (is_named within name x) (Some i) last))) same
+    (last_number_from (i + 1) within name es (cond (is_named within name x) (Some i) last))) same
 
 last-push : (within : Space) (name : List ℕ) (es : List Entry) (e : Entry)
-    → last_place within name (es ++ e ∷ []) ≡ cond (is_named within name e) (Some (length es))
-    (last_place within name es)
+    → last_number within name (es ++ e ∷ []) ≡ cond (is_named within name e) (Some (length es))
+    (last_number within name es)
 last-push within name es e = let same : 0 + length es ≡ length es = omega arith in
-    place-push 0 within name es e None ∙ ap (λ n. cond (is_named within name e) (Some n)
-    (last_place within name es)) same
+    number-push 0 within name es e None ∙ ap (λ n. cond (is_named within name e) (Some n)
+    (last_number within name es)) same
 
 -- THE LAST ENTRY ITSELF
 
@@ -62,7 +64,8 @@ either-found whole false i e last found here rest = rest
 find-from : (whole : List Entry) (within : Space) (name : List ℕ) (es : List Entry) (i : ℕ) (last : Option ℕ)
     (found : Option Entry)
     → drop i whole ≡ es → option_and_then (slice_get whole) last ≡ found
-    → option_and_then (slice_get whole) (place_from i within name es last) ≡ last_entry within name es found
+    → option_and_then (slice_get whole) (last_number_from i within name es last) ≡ last_entry within name es
+    found
 find-from whole within name [] i last found left rest = rest
 find-from whole within name (e ∷ es) i last found left rest =
     let next : suc i ≡ i + 1 = omega arith in
@@ -73,7 +76,7 @@ find-from whole within name (e ∷ es) i last found left rest =
     (either-found whole (is_named within name e) i e last found (at-front whole i e es left) rest)
 
 pub found-at : (es : List Entry) (within : Space) (name : List ℕ)
-    → option_and_then (slice_get es) (last_place within name es) ≡ last_entry within name es None
+    → option_and_then (slice_get es) (last_number within name es) ≡ last_entry within name es None
 found-at es within name = find-from es within name es 0 None None refl refl
 
 -- A POP
@@ -108,12 +111,12 @@ and-swap true false = refl
 and-swap false true = refl
 and-swap false false = refl
 
-has-newest : (e : Entry) (place : Option ℕ) (old new : Newest)
-    → HasNewest (space_of e.entity) e.name place old new
+has-newest : (e : Entry) (number : Option ℕ) (old new : Newest)
+    → HasNewest (space_of e.entity) e.name number old new
     → (within : Space) (name : List ℕ)
-    → newest_in new within name ≡ cond (is_named within name e) place (newest_in old within name)
-has-newest e place old new has within name = has within name
-    ∙ ap (λ b. cond b place (newest_in old within name)) (and-swap (same_space (space_of e.entity) within)
+    → newest_in new within name ≡ cond (is_named within name e) number (newest_in old within name)
+has-newest e number old new has within name = has within name
+    ∙ ap (λ b. cond b number (newest_in old within name)) (and-swap (same_space (space_of e.entity) within)
     (same_name e.name name))
 
 pick-other : (b : Bool) (one other mine : Option ℕ) → (b ≡ true → one ≡ mine)
@@ -134,41 +137,41 @@ module _ (items : List Stored) (t : Stored) (newest next : Newest) (stored : Are
 
   pub newest-is : (within : Space) (name : List ℕ)
       → newest_in newest within name ≡ cond (is_named within name t.entry) (Some (length es))
-      (last_place within name es)
-  newest-is within name = stored.found within name ∙ ap (last_place within name) all-entries
+      (last_number within name es)
+  newest-is within name = stored.found within name ∙ ap (last_number within name) all-entries
       ∙ last-push within name es t.entry
 
-  last-hides : t.hidden ≡ last_place (space_of t.entry.entity) t.entry.name es
+  last-hides : t.hidden ≡ last_number (space_of t.entry.entity) t.entry.name es
   last-hides =
       let more = length-append items (t ∷ []) in
       let here = get_or-append_seam items t [] t in
       ap (λ (s : Stored). s.hidden) (sym here)
       ∙ stored.hides (length items) t (omega (arith, more))
-      ∙ ap (λ (s : Stored). last_place (space_of s.entry.entity) s.entry.name
+      ∙ ap (λ (s : Stored). last_number (space_of s.entry.entity) s.entry.name
       (take (length items) (entries_of (items ++ t ∷ [])))) here
-      ∙ ap (λ xs. last_place (space_of t.entry.entity) t.entry.name (take (length items) xs)) all-entries
-      ∙ ap (λ n. last_place (space_of t.entry.entity) t.entry.name (take n (es ++ t.entry ∷ []))) (sym many)
-      ∙ ap (last_place (space_of t.entry.entity) t.entry.name) (take-append_seam es (t.entry ∷ []))
+      ∙ ap (λ xs. last_number (space_of t.entry.entity) t.entry.name (take (length items) xs)) all-entries
+      ∙ ap (λ n. last_number (space_of t.entry.entity) t.entry.name (take n (es ++ t.entry ∷ []))) (sym many)
+      ∙ ap (last_number (space_of t.entry.entity) t.entry.name) (take-append_seam es (t.entry ∷ []))
 
   pub pop-stored : HasNewest (space_of t.entry.entity) t.entry.name t.hidden newest next
       → AreStored items next
   pop-stored restored = record {
     found = λ within name. has-newest t.entry t.hidden newest next restored within name
         ∙ ap (λ p. cond (is_named within name t.entry) t.hidden p) (newest-is within name)
-        ∙ pick-other (is_named within name t.entry) t.hidden (Some (length es)) (last_place within name es)
+        ∙ pick-other (is_named within name t.entry) t.hidden (Some (length es)) (last_number within name es)
         (λ same. last-hides
-        ∙ ap (λ n. last_place (space_of t.entry.entity) n es) (named-name within name t.entry same)
-        ∙ ap (λ s. last_place s name es) (named-space within name t.entry same));
+        ∙ ap (λ n. last_number (space_of t.entry.entity) n es) (named-name within name t.entry same)
+        ∙ ap (λ s. last_number s name es) (named-space within name t.entry same));
     hides = λ i d inside.
         let more = length-append items (t ∷ []) in
         let here = get_or-append items (t ∷ []) d i inside in
         ap (λ (s : Stored). s.hidden) (sym here) ∙ stored.hides i d (omega (arith, more))
-        ∙ ap (λ (s : Stored). last_place (space_of s.entry.entity) s.entry.name
+        ∙ ap (λ (s : Stored). last_number (space_of s.entry.entity) s.entry.name
         (take i (entries_of (items ++ t ∷ [])))) here
-        ∙ ap (λ xs. last_place (space_of (get_or items i d).entry.entity) (get_or items i d).entry.name
+        ∙ ap (λ xs. last_number (space_of (get_or items i d).entry.entity) (get_or items i d).entry.name
         (take i xs))
         all-entries
-        ∙ ap (last_place (space_of (get_or items i d).entry.entity) (get_or items i d).entry.name)
+        ∙ ap (last_number (space_of (get_or items i d).entry.entity) (get_or items i d).entry.name)
         (take-append-le i es (t.entry ∷ []) (omega (
           arith,
           many,
@@ -192,15 +195,15 @@ module _ (items : List Stored) (t : Stored) (newest next : Newest) (stored : Are
       record {
         found = λ within name. has-newest t.entry (Some (length items)) newest next set within name
             ∙ ap (λ p. cond (is_named within name t.entry) (Some (length items)) p) (stored.found within name)
-            ∙ ap (λ n. cond (is_named within name t.entry) (Some n) (last_place within name before))
+            ∙ ap (λ n. cond (is_named within name t.entry) (Some n) (last_number within name before))
             (sym many)
-            ∙ sym (last-push within name before t.entry) ∙ ap (last_place within name) (sym all);
+            ∙ sym (last-push within name before t.entry) ∙ ap (last_number within name) (sym all);
         hides = λ i d inside. elim (cases_lt i (length items)) [
           | inl old ↦ let here = get_or-append items (t ∷ []) d i old in
               ap (λ (s : Stored). s.hidden) here ∙ stored.hides i d old
-              ∙ ap (λ (s : Stored). last_place (space_of s.entry.entity) s.entry.name (take i before))
+              ∙ ap (λ (s : Stored). last_number (space_of s.entry.entity) s.entry.name (take i before))
               (sym here)
-              ∙ ap (last_place (space_of (get_or (items ++ t ∷ []) i d).entry.entity)
+              ∙ ap (last_number (space_of (get_or (items ++ t ∷ []) i d).entry.entity)
               (get_or (items ++ t ∷ []) i d).entry.name)
               (sym (take-append-le i before (t.entry ∷ []) (omega (arith, many))) ∙ ap (take i) (sym all))
           | inr new ↦
@@ -209,8 +212,8 @@ module _ (items : List Stored) (t : Stored) (newest next : Newest) (stored : Are
               ∙ get_or-append_seam items t [] d in
               ap (λ (s : Stored). s.hidden) here ∙ hidden ∙ stored.found
               (space_of t.entry.entity) t.entry.name
-              ∙ ap (λ (s : Stored). last_place (space_of s.entry.entity) s.entry.name before) (sym here)
-              ∙ ap (last_place (space_of (get_or (items ++ t ∷ []) i d).entry.entity)
+              ∙ ap (λ (s : Stored). last_number (space_of s.entry.entity) s.entry.name before) (sym here)
+              ∙ ap (last_number (space_of (get_or (items ++ t ∷ []) i d).entry.entity)
               (get_or (items ++ t ∷ []) i d).entry.name)
               (sym (take-append_seam before (t.entry ∷ [])) ∙ ap (λ n. take n (before ++ t.entry ∷ []))
               (many ∙ last)
@@ -259,7 +262,7 @@ vars-stored items count entries view =
 abbrev pub numbers_of : List Stored → List VarId
 numbers_of = flat_map (λ (s : Stored). var_in s.entry.entity)
 
--- the numbers at each place are put behind the others
+-- the numbers of each entry are appended
 module _ (items : List Stored) (i : ℕ) (old whole : List VarId)
     (rest : old ++ numbers_of (drop i items) ≡ whole) where
   pub next-numbers : (s : Stored) (new : List VarId) → i < length items → s ≡ get_or items i s

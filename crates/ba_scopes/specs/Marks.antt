@@ -1,9 +1,10 @@
--- What is put back into a scope where a part of the text ends.
+-- What the end of a scope restores.
 
 use Rattle.std.specs.Prelude.{length, take}
 use Rattle.ba_typing.specs.Names.{Scope}
 use Rattle.ba_scopes.specs.declared.scopes.Mark.{Mark}
 
+-- what is noted of a scope
 abbrev pub mark_of : Scope → Mark
 mark_of scope = record {
   count = length scope.known;
@@ -13,6 +14,7 @@ mark_of scope = record {
       scope.result;
 }
 
+-- the scope as it was when the mark was made
 abbrev pub back_to : Mark → Scope → Scope
 back_to mark scope = record scope {
   known = take mark.count scope.known;

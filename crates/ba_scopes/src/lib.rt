@@ -1,5 +1,6 @@
-//! The names that are in scope (C90 6.1.2.1): what is declared by the newest of each name, and the functions of a file.
+//! A symbol table (C90 6.1.2.1, 6.1.2.3): the variables, enumeration constants and tags in scope, and the
+//! functions of a file.
 #![tactic(auto)]
 
-mod places;
+mod number_maps;
 pub mod scopes;

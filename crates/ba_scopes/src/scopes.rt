@@ -1,10 +1,10 @@
-//! What the names of a program mean where they stand (C90 6.1.2.1).
+//! The meanings of the names in scope (C90 6.1.2.1).
 
 ghost use Rattle.std.specs.Prelude.{◌≡◌, ℕ, List, ◌+◌, ◌-◌, ◌==◌, ◌&&◌, not, cond, is_some, IfOk, false, ◌∷◌, [], ◌++◌, None, Some, option_map, length, map, flat_map, take, drop, OnOk, OnErr};
 ghost use Rattle.std.specs.List.{list_any};
 ghost use Rattle.ba_typing.specs.Expressions.{called};
 ghost use Rattle.ba_typing.specs.Files.{count_functions, var_in, vars_of};
-ghost use Rattle.ba_scopes.specs.Storage.{AreListed, HaveSamePlaces, place_in};
+ghost use Rattle.ba_scopes.specs.Storage.{AreListed, HaveSameNumbers, number_in};
 ghost use Rattle.ba_typing.specs.declared.meanings.Entry.{Entry};
 ghost use Rattle.ba_typing.specs.declared.meanings.Signature.{Signature};
 ghost use Rattle.ba_scopes.specs.declared.scopes.Stored.{Stored};
@@ -12,7 +12,7 @@ ghost use Rattle.ba_typing.specs.Names.{fresh_scope};
 ghost use Rattle.ba_scopes.specs.Marks.{back_to, mark_of};
 ghost use Rattle.ba_typing.specs.Names.{definition_in, inner, is_declared_here, is_declared_in, is_named, is_tag_known, knowing, last_entry, meaning_of, same_name};
 
-use crate::places::{Newest, Places};
+use crate::number_maps::{Newest, NumberMap};
 use ba_items::Items;
 use ba_numbers::ids::VarId;
 use ba_numbers::numbers::CType;
@@ -22,15 +22,15 @@ use ba_typing::text::Text;
 use std::alloc::{AllocError, Global};
 use std::marker::Model;
 
-/// An entry that is in scope, and the number of the one of its name and name space that it hides.
+/// An entry in scope, and the number of the entry of its name and name space that it hides.
 #[derive(Drop)]
 pub struct Stored<'a> {
     entry: Entry<'a>,
     hidden: Option<usize>,
 }
 
-/// What is in scope, in the order of the declarations: variables, enumeration constants and tags. A name is found by the map of its
-/// name space.
+/// The variables, enumeration constants and tags in scope, in the order of their declarations. A name is
+/// found by the map of its name space.
 pub struct Declared<'a> {
     stored: Vec<Stored<'a>>,
     newest: Newest<'a>,
@@ -75,7 +75,7 @@ impl<'a> Declared<'a> {
         self.stored.len()
     }
 
-    /// One entry more. The one error is want of memory, which leaves all as it was.
+    /// Adds an entry. The only error is out of memory, which leaves all as it was.
     pub fn push(&mut self, entry: Entry<'a>) -> Result<(), AllocError>
         ensures ok { OnOk result (self.new ≡ self.old ++ entry.entry ∷ []) }
         ensures err { OnErr result (self.new ≡ self.old) }
@@ -83,16 +83,16 @@ impl<'a> Declared<'a> {
         let name = entry.name.copy();
         let within = entry.entity.space();
         let hidden = self.newest.get(within, &name);
-        let place = self.stored.len();
+        let number = self.stored.len();
         self.stored.push(Stored { entry, hidden })?;
-        if self.newest.set(within, &name, place).is_err() {
-            self.stored.truncate(place);
+        if self.newest.set(within, &name, number).is_err() {
+            self.stored.truncate(number);
             return Err(AllocError);
         }
         Ok(())
     }
 
-    /// The numbers of the variables behind the first `count` entries. The one error is want of memory.
+    /// The numbers of the variables after the first `count` entries. The only error is out of memory.
     fn vars_behind(&self, alloc: Global, count: usize) -> Result<Items<VarId>, AllocError>
         ensures { IfOk result (λ vars. vars ≡ vars_of (drop count self.now)) }
     {
@@ -100,7 +100,7 @@ impl<'a> Declared<'a> {
         Ok(Items::from_vec(vars))
     }
 
-    /// The first `count` entries alone.
+    /// Keeps the first `count` entries alone.
     pub fn truncate(&mut self, count: usize)
         ensures { self.new ≡ take count self.old }
     {
@@ -109,7 +109,7 @@ impl<'a> Declared<'a> {
         }
     }
 
-    /// All entries but the last one.
+    /// Removes the last entry.
     fn pop(&mut self)
         ensures { self.new ≡ take (length self.old - 1) self.old }
     {
@@ -117,60 +117,60 @@ impl<'a> Declared<'a> {
             return;
         };
         match last.hidden {
-            Some(place) => self
+            Some(number) => self
                 .newest
-                .replace(last.entry.entity.space(), &last.entry.name, place),
+                .replace(last.entry.entity.space(), &last.entry.name, number),
             None => self
                 .newest
                 .remove(last.entry.entity.space(), &last.entry.name),
         }
     }
 
-    /// The entry of this name in a name space that was declared last, `None` where there is none.
+    /// The newest entry of this name in a name space, `None` if there is none.
     pub fn find(&self, within: Space, name: &Text<'a>) -> Option<Entry<'a>>
         ensures { result ≡ last_entry within name.now self.now None }
     {
-        let place = self.newest.get(within, name)?;
-        let stored = self.stored.get(place)?;
+        let number = self.newest.get(within, name)?;
+        let stored = self.stored.get(number)?;
         Some(stored.entry.copy())
     }
 
-    /// Whether an entry of this name in a name space is declared in the scope of this depth.
+    /// Whether an entry of this name in a name space is declared at this depth of scopes.
     fn is_declared_at(&self, within: Space, name: &Text<'a>, depth: u32) -> bool
         ensures { result
             ≡ list_any (λ (e : Entry). is_named within name.now e && (e.depth == depth)) self.now }
     {
-        let mut place = self.newest.get(within, name);
-        while let Some(number) = place {
+        let mut next = self.newest.get(within, name);
+        while let Some(number) = next {
             let Some(stored) = self.stored.get(number) else {
                 return false;
             };
             if stored.entry.depth == depth {
                 return true;
             }
-            place = stored.hidden;
+            next = stored.hidden;
         }
         false
     }
 }
 
-/// The numbers of the variables among these from this place on. The one error is want of memory.
+/// The numbers of the variables among these entries from an index on. The only error is out of memory.
 fn numbers_from<'a>(
     alloc: Global,
     stored: &[Stored<'a>],
-    place: usize,
+    number: usize,
 ) -> Result<Vec<VarId>, AllocError>
     ensures { IfOk result (λ vars. vars.items
-        ≡ flat_map (λ (s : Stored). var_in s.entry.entity) (drop place stored.now)) }
+        ≡ flat_map (λ (s : Stored). var_in s.entry.entity) (drop number stored.now)) }
 {
     let mut vars = Vec::new(alloc);
-    for i in place..stored.len() {
+    for i in number..stored.len() {
         add_number(&mut vars, stored[i].entry.entity)?;
     }
     Ok(vars)
 }
 
-/// The number of a variable behind these; nothing of a constant or a tag. The one error is want of memory.
+/// Appends the number of a variable; nothing for a constant or a tag. The only error is out of memory.
 fn add_number(vars: &mut Vec<VarId>, entity: Entity) -> Result<(), AllocError>
     ensures { OnOk result (vars.new.items ≡ vars.old.items ++ var_in entity) }
 {
@@ -180,11 +180,12 @@ fn add_number(vars: &mut Vec<VarId>, entity: Entity) -> Result<(), AllocError>
     Ok(())
 }
 
-/// The declarations of functions in a file, in their order, and how many functions they declare. A name is found by maps.
+/// The declarations of functions in a file, in their order, and how many functions they declare. A name is
+/// found by maps.
 pub struct Functions<'a> {
     declarations: Vec<Signature<'a>>,
-    names: Places<'a>,
-    definitions: Places<'a>,
+    names: NumberMap<'a>,
+    definitions: NumberMap<'a>,
     count: u32,
 }
 
@@ -214,14 +215,14 @@ impl<'a> Model for Functions<'a> {
 }
 
 impl<'a> Functions<'a> {
-    /// No function. It takes no memory.
+    /// No functions. It takes no memory.
     pub fn new(alloc: Global) -> Functions<'a>
         ensures { result ≡ [] }
     {
         Functions {
             declarations: Vec::new(alloc),
-            names: Places::new(alloc),
-            definitions: Places::new(alloc),
+            names: NumberMap::new(alloc),
+            definitions: NumberMap::new(alloc),
             count: 0,
         }
     }
@@ -240,14 +241,15 @@ impl<'a> Functions<'a> {
         self.count
     }
 
-    /// One declaration more. The one error is want of memory, which also stands for want of numbers, and leaves all as it was.
+    /// Adds a declaration. The only error is out of memory, also if the numbers run out; all is then as it
+    /// was.
     pub fn push(&mut self, signature: Signature<'a>) -> Result<(), AllocError>
         ensures ok { OnOk result (self.new ≡ self.old ++ signature.entry ∷ []) }
         ensures err { OnErr result (self.new ≡ self.old) }
     {
         let name = signature.name.copy();
         let is_definition = signature.is_definition;
-        let place = self.declarations.len();
+        let number = self.declarations.len();
         let is_declared = self.names.get(&name).is_some();
         let count = count_behind(self.count, is_declared)?;
         self.declarations.push(signature)?;
@@ -256,10 +258,10 @@ impl<'a> Functions<'a> {
             &mut self.definitions,
             &name,
             is_definition,
-            place,
+            number,
         );
         if listed.is_err() {
-            self.declarations.truncate(place);
+            self.declarations.truncate(number);
             return Err(AllocError);
         }
         self.count = count;
@@ -273,18 +275,18 @@ impl<'a> Functions<'a> {
         self.names.get(name).is_some()
     }
 
-    /// The first definition of a function of this name, `None` where there is none.
+    /// The first definition of a function of this name, `None` if there is none.
     pub fn definition(&self, name: &Text<'a>) -> Option<&Signature<'a>>
         ensures { option_map (λ s. s.now) result ≡ definition_in self.now name.now }
     {
-        let place = self.definitions.get(name)?;
-        let signature = self.declarations.get(place)?;
+        let number = self.definitions.get(name)?;
+        let signature = self.declarations.get(number)?;
         Some(signature)
     }
 }
 
-/// How many functions are declared behind one declaration more, of one of them or of another function. The one error is want of memory,
-/// which stands for want of numbers.
+/// How many functions are declared after one more declaration, of a new function or of one that is declared.
+/// The only error is out of memory, also if the numbers run out.
 fn count_behind(count: u32, is_declared: bool) -> Result<u32, AllocError>
     ensures { IfOk result (λ more. more ≡ count + cond is_declared 0 1) }
 {
@@ -297,64 +299,69 @@ fn count_behind(count: u32, is_declared: bool) -> Result<u32, AllocError>
     }
 }
 
-/// Enters the declaration of this number into the maps. The one error is want of memory, which leaves all as it was.
+/// Enters the declaration of this number into the maps. The only error is out of memory, which leaves all as
+/// it was.
 fn list<'a>(
-    names: &mut Places<'a>,
-    definitions: &mut Places<'a>,
+    names: &mut NumberMap<'a>,
+    definitions: &mut NumberMap<'a>,
     name: &Text<'a>,
     is_definition: bool,
-    place: usize,
+    number: usize,
 ) -> Result<(), AllocError>
     ensures ok { OnOk result ((ds : List Signature) (s : Signature) → s.name ≡ name.now →
-        s.is_definition ≡ is_definition → place ≡ length ds →
+        s.is_definition ≡ is_definition → number ≡ length ds →
         AreListed ds names.old definitions.old →
         AreListed (ds ++ s ∷ []) names.new definitions.new) }
     ensures err { OnErr result ((ds : List Signature) → AreListed ds names.old definitions.old →
         AreListed ds names.new definitions.new) }
 {
-    let is_first = define(definitions, name, is_definition, place)?;
-    if names.set(name, place).is_err() {
+    let is_first = define(definitions, name, is_definition, number)?;
+    if names.set(name, number).is_err() {
         undefine(definitions, name, is_first);
         return Err(AllocError);
     }
     Ok(())
 }
 
-/// Enters a definition, and says whether it is the first one of its name. The one error is want of memory, which leaves all as it was.
+/// Enters a definition, and tells whether it is the first one of its name. The only error is out of memory,
+/// which leaves all as it was.
 fn define<'a>(
-    definitions: &mut Places<'a>,
+    definitions: &mut NumberMap<'a>,
     name: &Text<'a>,
     is_definition: bool,
-    place: usize,
+    number: usize,
 ) -> Result<bool, AllocError>
     ensures first { IfOk result (λ is_first.
-        is_first ≡ (is_definition && not (is_some (place_in definitions.old name.now)))) }
-    ensures ok { IfOk result (λ is_first. (other : List ℕ) → place_in definitions.new other
+        is_first ≡ (is_definition && not (is_some (number_in definitions.old name.now)))) }
+    ensures ok { IfOk result (λ is_first. (other : List ℕ) → number_in definitions.new other
         ≡ cond (is_first && same_name name.now other)
-        (Some place) (place_in definitions.old other)) }
-    ensures err { OnErr result (HaveSamePlaces definitions.old definitions.new) }
+        (Some number) (number_in definitions.old other)) }
+    ensures err { OnErr result (HaveSameNumbers definitions.old definitions.new) }
 {
     let is_first = is_definition && definitions.get(name).is_none();
     if !is_first {
         return Ok(false);
     }
-    definitions.set(name, place)?;
+    definitions.set(name, number)?;
     Ok(true)
 }
 
-/// Takes a definition back that was the first one of its name.
-fn undefine<'a>(definitions: &mut Places<'a>, name: &Text<'a>, is_first: bool)
-    ensures { (other : List ℕ) → place_in definitions.new other
-        ≡ cond (is_first && same_name name.now other) None (place_in definitions.old other) }
+/// Removes a definition that was the first one of its name.
+fn undefine<'a>(definitions: &mut NumberMap<'a>, name: &Text<'a>, is_first: bool)
+    ensures { (other : List ℕ) → number_in definitions.new other
+        ≡ cond (is_first && same_name name.now other) None (number_in definitions.old other) }
 {
     if is_first {
         definitions.remove(name);
     }
 }
 
-/// What an expression or a statement finds around it: the functions of the file; what is declared and in scope; how many scopes are
-/// inside the file's, where parameters and a function's block are one; which jumps are accepted; and the type that the function around
-/// returns, `None` for `void`.
+/// What is known around an expression or a statement:
+/// - the functions of the file
+/// - the entries in scope
+/// - how many scopes are inside the file's; those of parameters and of a function's block are one
+/// - which jumps are accepted
+/// - the type of the function around, `None` for `void`
 pub struct Scope<'a> {
     functions: Functions<'a>,
     known: Declared<'a>,
@@ -375,8 +382,8 @@ impl<'a> Drop for Scope<'a> {
     }
 }
 
-/// What is around a part of the text: how many entries are in scope, how many scopes are inside the file's, which jumps are accepted,
-/// and the type that the function around returns.
+/// What the end of a scope restores: how many entries are in scope, the depth of scopes, the accepted jumps,
+/// and the function's type.
 #[derive(Clone, Copy, Debug, PartialEq, Eq)]
 pub struct Mark {
     count: usize,
@@ -430,7 +437,7 @@ impl<'a> Scope<'a> {
         self.exits
     }
 
-    /// The type that the function around returns, `None` for `void`.
+    /// The type of the function around, `None` for `void`.
     pub fn result(&self) -> Option<CType>
         ensures { result ≡ self.now.result }
     {
@@ -444,14 +451,15 @@ impl<'a> Scope<'a> {
         self.known.len()
     }
 
-    /// The numbers of the variables in scope behind the first `count` entries. The one error is want of memory.
+    /// The numbers of the variables in scope after the first `count` entries. The only error is out of
+    /// memory.
     pub fn vars_behind(&self, alloc: Global, count: usize) -> Result<Items<VarId>, AllocError>
         ensures { IfOk result (λ vars. vars ≡ vars_of (drop count self.now.known)) }
     {
         self.known.vars_behind(alloc, count)
     }
 
-    /// One entry more is in scope. The one error is want of memory, which leaves all as it was.
+    /// Adds an entry to the scope. The only error is out of memory, which leaves all as it was.
     pub fn declare(&mut self, entry: Entry<'a>) -> Result<(), AllocError>
         ensures ok { OnOk result (self.new ≡ knowing (entry.entry ∷ []) self.old) }
         ensures err { OnErr result (self.new ≡ self.old) }
@@ -459,7 +467,7 @@ impl<'a> Scope<'a> {
         self.known.push(entry)
     }
 
-    /// A scope begins. The one error is want of memory, which stands for want of numbers, and leaves all as it was.
+    /// Begins a scope. The only error is out of memory, also if the numbers run out; all is then as it was.
     pub fn enter(&mut self) -> Result<(), AllocError>
         ensures ok { OnOk result (self.new ≡ inner self.old) }
         ensures err { OnErr result (self.new ≡ self.old) }
@@ -471,7 +479,7 @@ impl<'a> Scope<'a> {
         Ok(())
     }
 
-    /// What is to be put back where a part of the text ends.
+    /// What the end of a scope has to restore.
     pub fn mark(&self) -> Mark
         ensures { result ≡ mark_of self.now }
     {
@@ -483,7 +491,7 @@ impl<'a> Scope<'a> {
         }
     }
 
-    /// What a part of the text declared is in scope no longer, and around it is what was there before it.
+    /// Ends a scope: what it declared is no longer known, and the rest is as at the mark.
     pub fn back_to(&mut self, mark: Mark)
         ensures { self.new ≡ back_to mark self.old }
     {
@@ -493,14 +501,14 @@ impl<'a> Scope<'a> {
         self.result = mark.result;
     }
 
-    /// These jumps are accepted from now on.
+    /// Accepts these jumps from now on.
     pub fn set_exits(&mut self, exits: Exits)
         ensures { self.new ≡ record self.old { exits = exits } }
     {
         self.exits = exits;
     }
 
-    /// The function around returns this type from now on.
+    /// Sets the type of the function around.
     pub fn set_result(&mut self, result_type: Option<CType>)
         ensures { self.new ≡ record self.old { result = result_type } }
     {
@@ -514,14 +522,14 @@ impl<'a> Scope<'a> {
         self.known.is_declared_at(within, name, self.depth)
     }
 
-    /// Whether a tag is declared in a scope around.
+    /// Whether a tag is declared in this scope or one around it.
     pub fn is_tag_known(&self, tag: &Text<'a>) -> bool
         ensures { result ≡ is_tag_known self.now tag.now }
     {
         self.known.find(Space::Tags, tag).is_some()
     }
 
-    /// What a name means here.
+    /// The meaning of a name here.
     pub fn meaning_of(&self, name: &Text<'a>) -> Meaning
         ensures { result ≡ meaning_of self.now name.now }
     {
@@ -537,7 +545,8 @@ impl<'a> Scope<'a> {
         }
     }
 
-    /// The definition that a called name means, `None` where a variable or a constant hides it or there is none.
+    /// The definition that a called name means; `None` if there is none, or a variable or a constant hides
+    /// it.
     pub fn called(&self, name: &Text<'a>) -> Option<&Signature<'a>>
         ensures { option_map (λ s. s.now) result ≡ called self.now name.now }
     {

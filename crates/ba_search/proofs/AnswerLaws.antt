@@ -11,9 +11,9 @@ use Rattle.ba_lits.specs.Satisfaction.{Assignment, signed, lit_true, any_true, a
 use Rattle.ba_lits.specs.Hints.{has_literal, FollowsByHints}
 use Rattle.ba_lits.proofs.Members.{has_literal-permutation, literal_found, has_literal-at, negate-negate}
 use Rattle.ba_watch.specs.Threads.{Clause}
-use Rattle.ba_watch.specs.Trails.{same_sign, value_of, place_of, reason_of, decided}
+use Rattle.ba_watch.specs.Trails.{same_sign, value_of, trail_index, reason_of, decided}
 use Rattle.ba_watch.specs.Propagation.{State as Watching, falsified, is_false, clause_in, plain_lits, IsComplete, IsAsserting, KeepsFacts}
-use Rattle.ba_watch.proofs.Values.{place_of-some, lit_at-place, value_of-more, value_of-none}
+use Rattle.ba_watch.proofs.Values.{trail_index-some, lit_at-place, value_of-more, value_of-none}
 use Rattle.ba_learn.specs.Live.{Follows, IsSame}
 use Rattle.ba_learn.specs.Levels.{IsBacked, NegatesDecided, IsCoreOf}
 use Rattle.ba_learn.specs.Backjumps.{after_backtrack}
@@ -110,14 +110,14 @@ module _ (a : List Literal) (s : Watching) (numbers : Numbering) (c : State) (fa
       (u.decisions p within none).given
 
   pub core_reason_some : IsSome (reason_of s.trail s.reasons l.variable)
-  core_reason_some = step (get_or s.reasons (place_of s.trail l.variable) None) refl
+  core_reason_some = step (get_or s.reasons (trail_index s.trail l.variable) None) refl
     where
-      step : (o : Option ℕ) → get_or s.reasons (place_of s.trail l.variable) None ≡ o →
-          IsSome (get_or s.reasons (place_of s.trail l.variable) None)
+      step : (o : Option ℕ) → get_or s.reasons (trail_index s.trail l.variable) None ≡ o →
+          IsSome (get_or s.reasons (trail_index s.trail l.variable) None)
       step (Some r) is = subst (λ (x : Option ℕ). IsSome x) (sym is) refl
       step None is =
-          let p : ℕ = place_of s.trail l.variable in
-          let within : p < length s.trail = place_of-some s.trail l false false_ in
+          let p : ℕ = trail_index s.trail l.variable in
+          let within : p < length s.trail = trail_index-some s.trail l false false_ in
           let m : Literal = lit_at s.trail p in
           let same : l ≡ m = one_assumption c.variables a l m are one (decided_assumption p within is)
           (sym (lit_at-place s.trail l.variable within)) in

@@ -9,7 +9,7 @@ use Rattle.ba_steps.specs.Sinks.{with_step, MayAddStep}
 use Rattle.ba_steps.specs.declared.step.CertStep.TheVariants.{Delete}
 use Rattle.ba_checker.specs.States.{State}
 use Rattle.ba_choices.specs.Judges.{Judge}
-use Rattle.ba_checker.specs.Judging.{may_go, error_of, after, after_delete}
+use Rattle.ba_checker.specs.StepRules.{may_go, error_of, after, after_delete}
 use Rattle.ba_checker.specs.Puts.{Checking, IsTakenOrAsleep}
 use Rattle.ba_search.specs.Searching.{IsDiscarded, Leaves, Puts}
 use Rattle.ba_search.specs.Iterations.{Numbering, IsUnderway}

@@ -12,7 +12,7 @@ use Rattle.ba_steps.specs.declared.step.CertStep.TheVariants.{Delete}
 use Rattle.ba_steps.specs.declared.step.StepError.TheVariants.{AfterEnd, DeadClause, TooSoon, Memory}
 use Rattle.ba_checker.specs.States.{Kept, State, live_lits, lits_of, is_live_origin, clause_at, is_learnt_at, is_learnt_entry, width_at, without, without_all}
 use Rattle.ba_choices.specs.Judges.{Judge}
-use Rattle.ba_checker.specs.Judging.{error_if, error_of, may_go, after_delete}
+use Rattle.ba_checker.specs.StepRules.{error_if, error_of, may_go, after_delete}
 use Rattle.ba_watch.specs.Threads.{Clause}
 use Rattle.ba_watch.specs.Propagation.{State as Watching, clause_in}
 use Rattle.ba_learn.specs.Resolving.{number_of, reason_number, number_at}
@@ -180,7 +180,7 @@ spared_one s n m lits is narrow goes e =
         small w le = grind (arith, nat_tests)
     wide false w go le = cc go
 
--- and stays where others go
+-- and stays if others go
 set_other : (cs : List Kept) (j k : ℕ) (x : Kept) → j ≢ k → slice_get (set cs k x) j ≡ slice_get cs j
 set_other [] j k x ne = refl
 set_other (c ∷ cs) zero zero x ne = absurd (ne refl)

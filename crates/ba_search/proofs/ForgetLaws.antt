@@ -14,7 +14,7 @@ use Rattle.ba_watch.specs.Deletion.{KeepsOthers, Deletes, MayDelete, IsNamed}
 use Rattle.ba_watch.proofs.Deleted.{named_from, contains_from}
 use Rattle.ba_watch.proofs.DeletedSound.{some_within}
 use Rattle.ba_checker.specs.States.{Kept, State, clause_at, without, without_all}
-use Rattle.ba_checker.specs.Judging.{after_delete}
+use Rattle.ba_checker.specs.StepRules.{after_delete}
 use Rattle.ba_learn.specs.Live.{AreLive, IsSame}
 use Rattle.ba_search.specs.Iterations.{Numbering, MarksLive, MarksOne, IsNoReason, Forgets, AreDecisions, IsUnderway}
 use Rattle.ba_search.proofs.DeletionLaws.{length-without_all, without_other}

@@ -8,7 +8,7 @@ use Rattle.ba_lits.specs.Literals.{Literal}
 use Rattle.ba_watch.specs.Propagation.{State as Watching, Extends, KeepsFacts}
 use Rattle.ba_learn.specs.Backjumps.{after_backtrack}
 use Rattle.ba_checker.specs.States.{State}
-use Rattle.ba_checker.specs.Judging.{after_learn}
+use Rattle.ba_checker.specs.StepRules.{after_learn}
 use Rattle.ba_search.specs.Iterations.{Numbering, LearnsOne, iterations_left}
 use Rattle.ba_search.proofs.UnderwayLaws.{begins_length}
 

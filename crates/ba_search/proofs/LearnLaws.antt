@@ -12,9 +12,9 @@ use Rattle.ba_lits.specs.Literals.{Literal, negate, lit_at, no_literal, IsClause
 use Rattle.ba_lits.specs.Hints.{Standing, IsFalse, IsUnit, IsOpen, Replay, Refutes, has_literal, standing, is_last, after_clause, after_hint, replay, FollowsByHints}
 use Rattle.ba_lits.proofs.Members.{same_from_index, has_literal-permutation, literal_found}
 use Rattle.ba_watch.specs.Threads.{Clause, AreApart}
-use Rattle.ba_watch.specs.Trails.{value_of, place_of}
+use Rattle.ba_watch.specs.Trails.{value_of, trail_index}
 use Rattle.ba_watch.specs.Propagation.{State as Watching, plain_lits, clause_in, lits_in, is_false, KeepsFacts}
-use Rattle.ba_watch.proofs.Values.{place_of-some, lit_at-place}
+use Rattle.ba_watch.proofs.Values.{trail_index-some, lit_at-place}
 use Rattle.ba_learn.specs.Live.{AreLive, IsNew, IsPartOf}
 use Rattle.ba_learn.proofs.FollowLaws.{false_at}
 use Rattle.ba_learn.proofs.ReasonLaws.{reason_live}
@@ -26,7 +26,7 @@ use Rattle.ba_checker.specs.Parts.{is_part, is_live_part, holds_clause}
 use Rattle.ba_checker.specs.States.{Kept, kept, State, live_lits, is_live_origin, clause_at}
 use Rattle.ba_checker.specs.declared.store.Origin.TheVariants.{Given}
 use Rattle.ba_choices.specs.Judges.{Judge}
-use Rattle.ba_checker.specs.Judging.{error_of, lacks_variable, is_spent, error_of_replay, error_if}
+use Rattle.ba_checker.specs.StepRules.{error_of, lacks_variable, is_spent, error_of_replay, error_if}
 use Rattle.ba_search.specs.Iterations.{Numbering, IsUnderway}
 use Rattle.ba_search.proofs.TakenLaws.{number_within, same_some}
 
@@ -58,7 +58,7 @@ clause_formed c zero lits f awake is = absurd (cc is)
 clause_formed c (suc k) lits f awake is = at_formed c.variables c.clauses k lits (f.formed awake) is
     (omega (arith, (number_within c.clauses (suc k) lits is).1))
 
--- no literal stands twice in it
+-- no literal occurs twice in it
 pub clause_apart : (n : ℕ) (lits : List Literal) → IsClause n lits → AreApart lits
 clause_apart n lits c j k j_in k_in ne e =
     let same : (lit_at lits j).variable ≡ (lit_at lits k).variable =
@@ -109,8 +109,8 @@ module _ (a : List Literal) (s : Watching) (numbers : Numbering) (c : State) (fa
 
   pub valued_within : (l : Literal) (b : Bool) → value_of s.trail l ≡ Some b → l.variable ≤ c.variables
   valued_within l b has =
-      let p = place_of-some s.trail l b has in
-      omega (arith, trail_within (place_of s.trail l.variable) p, lit_at-place s.trail l.variable p)
+      let p = trail_index-some s.trail l b has in
+      omega (arith, trail_within (trail_index s.trail l.variable) p, lit_at-place s.trail l.variable p)
 
   pub learnt_clause : (lits : List Literal) → IsClause s.variables lits →
       is_false (value_of s.trail) lits ≡ true →

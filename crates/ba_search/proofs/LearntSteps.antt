@@ -13,7 +13,7 @@ use Rattle.ba_steps.specs.declared.step.CertStep.TheVariants.{Learn}
 use Rattle.ba_checker.specs.States.{State, kept, clause_at}
 use Rattle.ba_checker.specs.declared.store.Origin.TheVariants.{Learnt}
 use Rattle.ba_choices.specs.Judges.{Judge}
-use Rattle.ba_checker.specs.Judging.{error_of, after, after_learn}
+use Rattle.ba_checker.specs.StepRules.{error_of, after, after_learn}
 use Rattle.ba_checker.specs.Puts.{Checking, IsTakenOrAsleep}
 use Rattle.ba_search.specs.Searching.{Leaves, Puts}
 use Rattle.ba_search.specs.Iterations.{Numbering, IsUnderway}

@@ -11,7 +11,7 @@ use Rattle.ba_steps.specs.declared.step.CertStep.TheVariants.{Learn, Core, Delet
 use Rattle.ba_checker.specs.States.{Kept, State, kept, clause_at}
 use Rattle.ba_checker.specs.declared.store.Origin.TheVariants.{Learnt}
 use Rattle.ba_choices.specs.Judges.{Judge}
-use Rattle.ba_checker.specs.Judging.{error_of, after_delete}
+use Rattle.ba_checker.specs.StepRules.{error_of, after_delete}
 use Rattle.ba_search.specs.Searching.{Searches, searches_none, searches_learn, searches_delete}
 use Rattle.ba_search.proofs.StepLaws.{Gives}
 use Rattle.ba_search.proofs.DeletionLaws.{all_go, stays_without}
@@ -52,12 +52,12 @@ not_new live lits hints n formed new is =
     contains_none live lits new n lits is (clause_apart _ lits formed.0.0)
     (λ k within. has_literal-at lits k within)
 
--- a live clause stays live where another is added
+-- a live clause stays live if another is added
 still : (cs : List Kept) (x : Kept) (n : ℕ) (lits : List Literal) → clause_at cs n ≡ Some lits →
     clause_at (cs ++ x ∷ []) n ≡ Some lits
 still cs x n lits is = clause_at-more cs (x ∷ []) n (number_within cs n lits is).1 ∙ is
 
--- and where others are deleted, if it has at most two literals
+-- and if others are deleted, if it has at most two literals
 spared : (good : Judge) (s : State) (numbers : List ℕ) (n : ℕ) (lits : List Literal) →
     error_of good s (Delete numbers) ≡ None →
     clause_at s.clauses n ≡ Some lits → length lits ≤ 2 →

@@ -14,7 +14,7 @@ use Rattle.ba_steps.specs.declared.step.CertStep.TheVariants.{Learn, Delete}
 use Rattle.ba_checker.specs.States.{kept, State, live_lits, clause_at}
 use Rattle.ba_checker.specs.declared.store.Origin.TheVariants.{Given}
 use Rattle.ba_choices.specs.Judges.{Judge}
-use Rattle.ba_checker.specs.Judging.{error_of, after, after_learn, after_delete}
+use Rattle.ba_checker.specs.StepRules.{error_of, after, after_learn, after_delete}
 use Rattle.ba_checker.specs.Puts.{Checking, IsTakenOrAsleep, Lasts, LeavesSteps, leaves_all, leaves_last}
 use Rattle.ba_checker.proofs.PutLaws.{logs_then, leaves_weaker, leaves_after}
 use Rattle.ba_search.specs.Searching.{nothing, IsDiscarded, Searches, searches_none, searches_learn, searches_delete, Leaves, Puts}
@@ -111,7 +111,7 @@ puts_then gives a b c u v w lasts p q = record {
   logs = logs_then p.steps q.steps a.told.logs b.told.logs c.told.logs p.logs q.logs;
 }
 
--- what is left where nothing was put, where steps were put, where one was tried, and after more steps
+-- what is left if nothing was put, if steps were put, if one was tried, and after more steps
 pub leaves_none : (gives : Gives) (log : Checking) (learnt : List ℕ) → Leaves gives learnt log log
 leaves_none gives log learnt = leaves_all [] (learnt, searches_none log.checker learnt) refl
 

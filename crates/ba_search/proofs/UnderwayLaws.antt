@@ -11,7 +11,7 @@ use Rattle.ba_watch.proofs.Levels.{decided-take_drop, decided-take-le, decided-t
 use Rattle.ba_learn.specs.Backjumps.{after_backtrack}
 use Rattle.ba_checker.specs.States.{State, kept as kept_as, clause_at}
 use Rattle.ba_checker.specs.declared.store.Origin.TheVariants.{Learnt}
-use Rattle.ba_checker.specs.Judging.{after_learn}
+use Rattle.ba_checker.specs.StepRules.{after_learn}
 use Rattle.ba_learn.specs.Live.{AreLive}
 use Rattle.ba_watch.specs.Threads.{Clause}
 use Rattle.ba_search.specs.Iterations.{Numbering, MarksLive, LearnsOne, IsDecision, AreDecisions, IsUnderway}
@@ -29,7 +29,7 @@ begins_take front xs p b le = sym (take-take p (length front) xs le) ∙ ap (tak
 pub begins_length : {X : Type 0} (front xs : List X) → Begins front xs → length front ≤ length xs
 begins_length front xs b = omega (arith, sym (ap length b), length-take (length front) xs)
 
--- where no level was begun, no late place was decided
+-- if no level was begun, no late place was decided
 no_late : (R S : List (Option ℕ)) (p : ℕ) → Begins R S → decided S ≡ decided R → p < length S →
     get_or S p None ≡ None →
     p < length R

@@ -1,4 +1,4 @@
--- What a search answers under assumptions.
+-- The answers of a search under assumptions.
 
 use Rattle.std.specs.Prelude.{◌≡◌, ◌≢◌, ℕ, ◌<◌, ◌≤◌, Bool, true, Some, List, length, All}
 use Rattle.ba_lits.specs.Literals.{Literal, negate, lit_at, IsClause}
@@ -23,8 +23,8 @@ pub record IsModel (s : State) (assumptions : List Literal) (values : List Bool)
       any_true (assignment_of values) c ≡ true
   pub assumed : All (λ a. lit_true (assignment_of values) a ≡ true) assumptions
 
--- a clause that follows by its hints, numbers of a step, from the live clauses and negates assumptions alone, while conflicts
--- are left
+-- A clause that follows from the live clauses by its hints, which are formed as in a step, and negates
+-- assumptions alone. The conflicts are not spent.
 pub record IsCore (s : State) (assumptions lits : List Literal) (hints : List ℕ) (back : ℕ) : Type 0 where
   pub clause : IsClause s.variables lits
   pub follows : FollowsByHints (clause_at s.clauses) lits hints
@@ -33,7 +33,7 @@ pub record IsCore (s : State) (assumptions lits : List Literal) (hints : List �
   pub level : back ≡ 0
   pub left : s.conflicts < s.budget
 
--- what an answer says, with the checker as it is then
+-- what an answer says, with the state of the checker then
 abbrev pub IsAnswer : State → List Literal → Answer → Type 0
 IsAnswer s assumptions (Model m) = IsModel s assumptions m.values
 IsAnswer s assumptions (Core core) = IsCore s assumptions core.lits core.hints core.back

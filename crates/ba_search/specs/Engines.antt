@@ -1,4 +1,4 @@
--- What the calls of an engine leave, from one state of it to another.
+-- What calls of an engine leave, from one state to the next.
 
 use Rattle.std.specs.Prelude.{◌≡◌, ℕ, ◌<◌, Bool, true, false, None, Some, Option, Result, IfOk, IfSome, IfNone, IsSome, OnOk, List}
 use Rattle.ba_lits.specs.Literals.{Literal}
@@ -13,17 +13,17 @@ use Rattle.ba_search.specs.Searching.{Puts}
 use Rattle.ba_search.specs.declared.engine.Engine.{Engine}
 use Rattle.ba_search.specs.declared.search.Answer.{Answer}
 
--- no clause was learnt, no step back counted and no literal propagated
+-- no clause was learnt, no backtrack counted and no literal propagated
 pub record LearnsNothing (old new : Engine) : Type 0 where
   pub learnt : new.numbers.learnt ≡ old.numbers.learnt
   pub backtracks : new.backtracks_left ≡ old.backtracks_left
   pub propagated : new.propagated ≡ old.propagated
 
--- an engine is between two iterations of a search under assumptions, over the clauses of a log
+-- an engine between two iterations of a search under assumptions, over the clauses of a log
 abbrev pub IsAtWork : List Literal → Engine → Checking → Type 0
 IsAtWork assumptions engine log = IsUnderway assumptions engine.watch engine.numbers log.checker
 
--- how many iterations are left at most
+-- a bound on how many iterations are left
 abbrev pub left_in : Engine → Checking → ℕ
 left_in engine log = iterations_left log.checker engine.backtracks_left engine.watch
 
@@ -41,8 +41,7 @@ abbrev pub IsConflict : Watching → ℕ → Type 0
 IsConflict watch clause = IsSome (clause_in watch.clauses clause)
     × (is_false (value_of watch.trail) (lits_in watch.clauses clause) ≡ true)
 
--- a search between two iterations went on to the next, over the same variables and with Learn and Delete
--- steps that were put
+-- a search went on from one iteration to the next, over the same variables; Learn and Delete steps were put
 pub record GoesOn (gives : ℕ → ℕ → Bool → Type 0) (assumptions : List Literal) (before after : Checking)
     (old new : Engine) : Type 0 where
   pub underway : IsAtWork assumptions new after
@@ -56,13 +55,12 @@ pub record CountsNone (before after : Checking) (old new : Engine) : Type 0 wher
   pub conflicts : after.checker.conflicts ≡ before.checker.conflicts
   pub budget : after.checker.budget ≡ before.checker.budget
 
--- what an iteration comes to: an answer; or none, and then fewer are left
+-- what an iteration gives: an answer; or none, and then fewer iterations are left
 abbrev pub ComesTo : List Literal → Checking → Engine → Checking → Engine → Option Answer → Type 0
 ComesTo assumptions before old after new (Some answer) = IsAnswer after.checker assumptions answer
 ComesTo assumptions before old after new None = left_in new after < left_in old before
 
--- a search between two iterations decided, and then fewer iterations are left, or it is over, and then the
--- answer holds
+-- a search between two iterations decided, and fewer iterations are left; or it is over, and the answer holds
 pub record Decides {E : Type 0} (assumptions : List Literal) (c : State) (result : Result (Option Answer) E)
     (old new : Engine) : Type 0 where
   pub answer : IfOk result (λ found. IfSome found (IsAnswer c assumptions))

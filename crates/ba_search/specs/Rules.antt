@@ -2,7 +2,7 @@
 
 use Rattle.std.specs.Prelude.{◌≡◌, ℕ, ◌<◌, ◌≤◌, ◌^◌, Bool, true}
 
--- a restart rule may be asked at every number of restarts, and answers at least 1 conflict
+-- a restart rule may be asked for every number of restarts, and answers at least 1 conflict
 pub record IsRestartRule (may_ask : ℕ → Type 0) (gives : ℕ → ℕ → Type 0) : Type 0 where
   pub callable : (restarts : ℕ) → restarts < 2 ^ 64 → may_ask restarts
   pub positive : (restarts conflicts : ℕ) → restarts < 2 ^ 64 → gives restarts conflicts → 1 ≤ conflicts

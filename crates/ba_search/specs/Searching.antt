@@ -1,4 +1,4 @@
--- What contracts see of a search, and the steps that it puts.
+-- What a contract sees of a search, and the steps that it puts.
 
 use Rattle.std.specs.Prelude.{◌≡◌, ℕ, ◌+◌, ◌-◌, ◌⊎◌, Bool, false, Option, None, Some, Result, Err, IfErr, OnOk, List, [], ◌∷◌, ◌++◌, ◌<◌, ◌≤◌, All, length, get_or, map}
 use Rattle.ba_lits.specs.Formulas.{Cnf}
@@ -13,15 +13,18 @@ use Rattle.ba_steps.specs.declared.step.CertStep.TheVariants.{Learn, Delete}
 use Rattle.ba_checker.specs.States.{State, clause_at, kept, width_at}
 use Rattle.ba_checker.specs.declared.store.Origin.TheVariants.{Given}
 use Rattle.ba_choices.specs.Judges.{Judge}
-use Rattle.ba_checker.specs.Judging.{error_of, after}
+use Rattle.ba_checker.specs.StepRules.{error_of, after}
 use Rattle.ba_checker.specs.Puts.{Checking, Lasts, LeavesSteps, PutsSteps}
 use Rattle.ba_search.specs.Answers.{AreAssumptions}
 use Rattle.ba_search.specs.declared.search.SearchError.{SearchError}
 use Rattle.ba_search.specs.declared.search.SearchError.TheVariants.{SinkFailed}
 
--- a search between calls: its variables, its live clauses by reference, the numbers of the clauses that it
--- has learnt, in their order and the deleted ones too, its rules, the error that it answers from now on, and
--- how many literals propagation has assigned
+-- A SEARCH between calls:
+-- - its variables, and its live clauses by reference
+-- - the numbers of the clauses that it learnt, in order, the deleted ones too
+-- - its rules
+-- - the error that it answers from now on
+-- - how many literals propagation has assigned
 pub record Searching (R : Type 0) : Type 0 where
   pub variables : ℕ
   pub clauses : List (Option Clause)
@@ -30,8 +33,8 @@ pub record Searching (R : Type 0) : Type 0 where
   pub failure : Option SearchError
   pub propagated : ℕ
 
--- a search starts: it has the clauses of the formula, with numbers from 1 on, has learnt none and answered no
--- error
+-- A search starts. It has the clauses of the formula, with numbers from 1 on, has learnt none, and has
+-- answered no error.
 pub record Starts {R : Type 0} (formula : Cnf) (search : Searching R) : Type 0 where
   pub clauses : AreLive search.clauses (clause_at (map (kept Given) formula.clauses))
   pub variables : search.variables ≡ formula.variables
@@ -40,8 +43,8 @@ pub record Starts {R : Type 0} (formula : Cnf) (search : Searching R) : Type 0 w
   pub fresh : search.failure ≡ None
   pub propagated : search.propagated ≡ 0
 
--- each live clause of a search is a live clause of the checker with the same number, its literals in some
--- order
+-- each live clause of a search is a live clause of the checker with the same number; the order of literals
+-- may differ
 abbrev pub ArePart : List (Option Clause) → (ℕ → Option (List Literal)) → Type 0
 ArePart clauses live = (reference : ℕ) (c : Clause) → clause_in clauses reference ≡ Some c →
     IsSame (live c.number) c.lits
@@ -59,9 +62,8 @@ pub record IsDiscarded (gives : ℕ → ℕ → Bool →
   pub rule : gives (width_at s.clauses number) (length learnt - 1 - place) false
 
 -- Learn and Delete steps lead from one state of a checker to another, while the numbers of the learnt clauses
--- grow: each step has the form that its text asks for and is allowed; each learnt clause is new to
--- propagation for the clauses that are live at that moment; each clause that is deleted was discarded by the
--- keep rule
+-- grow. Each step is formed and allowed. Each learnt clause is new to propagation for the clauses that are
+-- live at that moment. Each deleted clause was discarded by the keep rule.
 pub data Searches (good : Judge) (gives : ℕ → ℕ → Bool → Type 0) : State → List ℕ → List CertStep → State →
     List ℕ → Type 0 where
   searches_none : (s : State) (learnt : List ℕ) → Searches good gives s learnt [] s learnt
@@ -89,19 +91,19 @@ Puts gives learnt all old new =
     PutsSteps (λ steps. Searches old.accepts gives old.checker learnt steps new.checker all)
     old.told.logs new.told.logs
 
--- a sink that fails has had a fault
+-- a sink that failed has had a fault
 abbrev pub IsCaused : {X : Type 0} → Result X SearchError → Told → Told → Type 0
 IsCaused result old new = result ≡ Err SinkFailed → HasFault old new
 
--- what a call leaves besides its steps: the log lasts; the sink failed only where its faults rose; and where
--- the call succeeds no step was refused
+-- What a call leaves besides its steps. The log lasts. The sink failed only if its faults rose. If the call
+-- succeeds no step was refused.
 pub record Ran {X : Type 0} (result : Result X SearchError) (old new : Checking) : Type 0 where
   pub lasts : Lasts old new
   pub cause : IsCaused result old.told new.told
   pub fresh : OnOk result (new.refusal ≡ None)
 
--- the same of a call of a search, which keeps its rules, and whose count of propagations doesn't fall: the
--- sink failed only where its faults rose, or where the search had answered so before
+-- The same for a call of a search. It keeps its rules, and its count of propagations doesn't fall. The sink
+-- failed only if its faults rose, or if the search had answered so before.
 pub record RanSearch {R X : Type 0} (result : Result X SearchError) (before after : Searching R)
     (old new : Checking) : Type 0 where
   pub lasts : Lasts old new
@@ -109,15 +111,14 @@ pub record RanSearch {R X : Type 0} (result : Result X SearchError) (before afte
   pub rules_stay : after.rules ≡ before.rules
   pub propagated : before.propagated ≤ after.propagated
 
--- a search may go on with a log: neither answers an error from now on, and the live clauses of both are the
--- same
+-- a search may go on with a log: neither answers an error from now on, and both have the same live clauses
 pub record MayGoOn {R : Type 0} (search : Searching R) (log : Checking) : Type 0 where
   pub working : search.failure ≡ None
   pub fresh : log.refusal ≡ None
   pub same : AreLive search.clauses (clause_at log.checker.clauses)
 
--- a search may be asked for a model under assumptions: no error is answered from now on, the live clauses are
--- the checker's, which has not ended, and the assumptions are of different variables of it
+-- A search may be asked for a model under assumptions. Neither search nor log answers an error, and both have
+-- the same live clauses. The checker has not ended, and the assumptions are of different variables of it.
 pub record MaySolve {R : Type 0} (assumptions : List Literal) (search : Searching R) (log : Checking) : Type 0
   where
     pub same : AreLive search.clauses (clause_at log.checker.clauses)
@@ -126,8 +127,8 @@ pub record MaySolve {R : Type 0} (assumptions : List Literal) (search : Searchin
     pub fresh : log.refusal ≡ None
     pub may_assume : AreAssumptions log.checker.variables assumptions
 
--- a search was asked for a model: it may go on, its clauses have different numbers, and the checker has not
--- ended
+-- after a search was asked for a model: it may go on, its clauses have different numbers, and the checker has
+-- not ended
 pub record HasSolved {R : Type 0} (search : Searching R) (log : Checking) : Type 0 where
   pub goes_on : MayGoOn search log
   pub alone : HaveDistinctNumbers search.clauses
@@ -141,13 +142,13 @@ pub record KeepsError {R X : Type 0} (result : Result X SearchError) (before aft
     pub keeps : IfErr result (λ error. after.failure ≡ Some error)
     pub again : (error : SearchError) → before.failure ≡ Some error → (result ≡ Err error) × (after ≡ before)
 
--- the rules, what was learnt and the count of propagations stay
+-- the rules, the learnt numbers and the count of propagations stay
 pub record StaysIdle {R : Type 0} (before after : Searching R) : Type 0 where
   pub rules_stay : after.rules ≡ before.rules
   pub learnt : after.learnt ≡ before.learnt
   pub propagated : after.propagated ≡ before.propagated
 
--- the search has the live clauses of the log, which have different numbers, and answers no error
+-- the search has the live clauses of the log, whose numbers differ, and answers no error
 pub record HasTaken {R : Type 0} (search : Searching R) (log : Checking) : Type 0 where
   pub same : AreLive search.clauses (clause_at log.checker.clauses)
   pub alone : HaveDistinctNumbers search.clauses

@@ -16,7 +16,7 @@ abbrev pub is_true : Option Bool → Bool
 is_true None = false
 is_true (Some b) = b
 
--- the values of the variables up to a number, those without one as false
+-- the values of the variables up to a number; one without a value counts as false
 abbrev pub values_of : List Literal → ℕ → List Bool
 values_of trail zero = []
 values_of trail (suc n) = values_of trail n ++ is_true (value_of trail (positive (suc n))) ∷ []

@@ -1,4 +1,5 @@
-//! Candidates: the literals of the last core, of which one has to be given up.
+//! Candidates: the literals of the last core take turns at being decided first. One of them has to be given
+//! up, and a hard one would keep the others waiting. Figures: `docs/measurements.md`.
 
 ghost use Rattle.std.specs.Prelude.{◌≤◌, IfSome};
 ghost use Rattle.ba_search.specs.Values.{IsUnassigned};
@@ -8,24 +9,23 @@ use ba_lits::Lit;
 use ba_watch::Watch;
 use std::alloc::{AllocError, Global};
 
-/// After how many conflicts of a search candidates are decided though no model was found yet. Until then activities alone
-/// decide which of them is given up, which leads to a first model sooner.
+/// After how many conflicts of a search candidates are decided though no model was found yet. Until then the
+/// activities alone decide, which leads to a first model sooner.
 const PATIENCE: u64 = 200;
 
-/// How many conflicts the turn of a candidate has in the first round of a search. In each further round it has twice as
-/// many.
+/// How many conflicts a candidate's turn has in the first round of a search. Each further round doubles it.
 const FIRST_TURN: u64 = 16;
 
-/// Literals of which one has to be true, by turns: the one whose turn it is is decided before other variables, and true,
-/// and then those after it that have no value. So a hard one doesn't keep the others waiting.
+/// Literals one of which has to be true. The candidate whose turn it is is decided before other variables, as
+/// true. Then those after it without a value follow.
 #[derive(Drop)]
 pub struct Candidates {
     lits: Vec<Lit>,
-    /// The place of the one whose turn it is, counted on where it comes round.
+    /// The index of the candidate whose turn it is, counted on after each round.
     first: usize,
-    /// How many have values, from that one on.
+    /// How many candidates have values, from that one on.
     passed: usize,
-    /// Whether none is decided yet.
+    /// Whether no candidate is decided yet.
     waits: bool,
     /// How many turns of this round are over.
     turns: usize,
@@ -51,7 +51,7 @@ impl Candidates {
 
     /// Takes the literals of another core.
     ///
-    /// The one error is want of memory.
+    /// The only error is out of memory.
     pub fn set(&mut self, lits: &[Lit]) -> Result<(), AllocError> {
         self.lits.clear();
         self.first = 0;
@@ -84,7 +84,7 @@ impl Candidates {
         self.waits = false;
     }
 
-    /// Whether the turn of a candidate is over while there are others. It is the next one's then.
+    /// Whether the turn of a candidate is over while there are others. If so, the next one's begins.
     pub fn ends_turn(&mut self) -> bool {
         let limit = if self.waits { PATIENCE } else { self.turn };
         if self.lits.len() < 2 || self.conflicts < limit {
@@ -99,7 +99,7 @@ impl Candidates {
         true
     }
 
-    /// Begins the next candidate's turn, and the next round where all had theirs.
+    /// Begins the next candidate's turn, and the next round after the last.
     fn begin_turn(&mut self) {
         self.first = self.first.saturating_add(1);
         self.passed = 0;

@@ -7,8 +7,8 @@ use ba_items::fill_up;
 use std::alloc::{AllocError, Global};
 use std::marker::Model;
 
-/// Which numbers are those of clauses that were taken, and the numbers of the learnt clauses in the order in which they
-/// were learnt, the deleted ones too: the one at place n is the one before which n clauses were learnt.
+/// The numbers of clauses that were taken, and those of learnt clauses in the order of learning, the deleted
+/// ones too. The entry at index n is that of the clause before which n were learnt.
 #[derive(Drop)]
 pub struct ClauseNumbers {
     taken: Vec<bool>,
@@ -45,7 +45,7 @@ impl ClauseNumbers {
 
     /// Marks a number as that of a clause that was taken.
     ///
-    /// The one error is want of memory.
+    /// The only error is out of memory.
     pub fn take(&mut self, number: u64) -> Result<(), AllocError>
         requires { number < 2 ^ 62 }
         ensures marks { OnOk result (MarksOne self.old.taken self.new.taken number) }
@@ -57,7 +57,7 @@ impl ClauseNumbers {
         Ok(())
     }
 
-    /// The clauses of the numbers count as taken no more. It takes no memory.
+    /// Unmarks the numbers. It takes no memory.
     pub fn forget(&mut self, numbers: &[u64])
         ensures forgets { Forgets numbers.now self.old.taken self.new.taken }
         ensures learnt { self.new.learnt ≡ self.old.learnt }
@@ -67,7 +67,7 @@ impl ClauseNumbers {
 
     /// Adds the number of a clause that was learnt.
     ///
-    /// The one error is want of memory.
+    /// The only error is out of memory.
     pub fn learn(&mut self, number: u64) -> Result<(), AllocError>
         ensures taken { self.new.taken ≡ self.old.taken }
         ensures learnt { OnOk result (self.new.learnt ≡ self.old.learnt ++ number ∷ []) }
@@ -75,7 +75,7 @@ impl ClauseNumbers {
         Ok(self.learnt.push(number)?)
     }
 
-    /// The numbers of the learnt clauses, in the order in which they were learnt.
+    /// The numbers of the learnt clauses, in the order of learning.
     pub fn learnt(&self) -> &[u64]
         ensures { result.now ≡ self.now.learnt }
     {
@@ -83,7 +83,7 @@ impl ClauseNumbers {
     }
 }
 
-/// Takes the marks of the numbers off.
+/// Clears the marks of the numbers.
 fn clear_all(taken: &mut Vec<bool>, numbers: &[u64])
     ensures { Forgets numbers.now taken.old.items taken.new.items }
 {
@@ -92,7 +92,7 @@ fn clear_all(taken: &mut Vec<bool>, numbers: &[u64])
     }
 }
 
-/// Takes the mark of a number off.
+/// Clears the mark of a number.
 fn clear(taken: &mut Vec<bool>, number: u64)
     ensures cleared { get_or taken.new.items number false ≡ false }
     ensures others { (n : ℕ) → n ≢ number → get_or taken.new.items n false

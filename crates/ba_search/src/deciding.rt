@@ -1,4 +1,4 @@
-//! Decisions where no clause is false or unit, and the answers where there is none to make.
+//! Decisions when no clause is false or unit, and the answers when nothing is left to decide.
 
 ghost use Rattle.std.specs.Prelude.{◌≡◌, ◌≢◌, ℕ, ◌<◌, ◌≤◌, ◌^◌, None, Some, true, false, is_none, length, IfOk, IfSome, IfNone, List};
 ghost use Rattle.ba_lits.specs.Literals.{Literal, lit_at, positive};
@@ -24,9 +24,9 @@ use ba_watch::Watch;
 use std::alloc::{AllocError, Global};
 
 impl Engine {
-    /// What to do where no clause is false or unit: decide, or answer. None where the search isn't over.
+    /// Decides or answers when no clause is false or unit. `None` if the search isn't over.
     ///
-    /// The one error is want of memory.
+    /// The only error is out of memory.
     pub fn decide(
         &mut self,
         assumptions: &[Lit],
@@ -52,7 +52,8 @@ impl Engine {
         }
     }
 
-    /// Whether a literal that is no assumption was decided at the noted place. All assumptions are true then.
+    /// Whether a literal that is no assumption was decided at the noted trail index. All assumptions are true
+    /// then.
     fn has_branched(&self, assumptions: &[Lit]) -> bool
         ensures { result ≡ true → (checker : Checking)
             → IsUnderway assumptions.now self.now.watch self.now.numbers checker
@@ -87,9 +88,9 @@ impl Engine {
         self.watch.keeps_facts();
     }
 
-    /// Decides an assumption that has no value, or answers where it is false.
+    /// Decides an assumption without a value, or answers if one is false.
     ///
-    /// The one error is want of memory.
+    /// The only error is out of memory.
     fn assume(
         &mut self,
         assumptions: &[Lit],
@@ -116,9 +117,9 @@ impl Engine {
         Ok(Some(Answer::Core(core)))
     }
 
-    /// Decides a variable that has no value, or answers where all have one.
+    /// Decides a variable without a value, or answers if all have one.
     ///
-    /// The one error is want of memory.
+    /// The only error is out of memory.
     fn branch(
         &mut self,
         assumptions: &[Lit],
@@ -163,7 +164,7 @@ impl Engine {
         Ok(Some(Answer::Model(model)))
     }
 
-    /// Takes the decisions above a level back, of a trial of a sweep or of a candidate's turn.
+    /// Takes back the decisions above a level: those of a trial of a sweep, or of a candidate's turn.
     fn leave(&mut self, level: usize)
         requires level { level ≤ decided self.old.watch.reasons }
         requires left { 1 ≤ self.old.backtracks_left }
@@ -181,9 +182,9 @@ impl Engine {
     }
 }
 
-/// The level to go back to: that at which the trial of a hypothesis that is over began, or that of the assumptions where a
-/// candidate's turn is over. None where they go on, or where no decisions may be taken back. A sweep is under one candidate,
-/// so that its turn doesn't end then.
+/// The level to go back to. It is the one at which an ended trial of a hypothesis began, or that of the
+/// assumptions after a candidate's turn. `None` if they go on, or if no decisions may be taken back. A sweep
+/// runs under one candidate, so its turn doesn't end then.
 fn level_to_leave(
     sweep: &mut Sweep,
     candidates: &mut Candidates,
@@ -204,10 +205,10 @@ fn level_to_leave(
     Some(assumption_level.min(watch.level()))
 }
 
-/// The variable without a value up to a limit that is decided next, with its phase: a candidate, or one that a sweep asks
-/// for, or the most active one; None exactly where all have values.
+/// The variable without a value, up to a limit, that is decided next, with its phase. It is a candidate's, or
+/// one that a sweep asks for, or the most active one. `None` exactly if all have values.
 ///
-/// The one error is want of memory.
+/// The only error is out of memory.
 fn pick(
     alloc: Global,
     order: &mut Order,
@@ -267,7 +268,7 @@ fn is_true(watch: &Watch, lit: Lit) -> bool
     watch.value(lit) == Some(true)
 }
 
-/// The literal of a variable that is true where the variable has a value.
+/// The literal of a variable that is true if the variable has this value.
 fn literal(variable: u64, value: bool) -> Lit
     requires counted { 1 ≤ variable }
     requires below { variable < 2 ^ 62 }
@@ -281,7 +282,7 @@ fn literal(variable: u64, value: bool) -> Lit
 
 /// The values of the variables up to a number.
 ///
-/// The one error is want of memory.
+/// The only error is out of memory.
 fn model_of(alloc: Global, watch: &Watch, variables: u64) -> Result<Assignment, AllocError>
     requires { variables ≤ watch.now.variables }
     ensures { IfOk result (λ model. model.values ≡ values_of watch.now.trail variables) }

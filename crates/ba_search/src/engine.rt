@@ -1,4 +1,4 @@
-//! What a search works with: the clauses with their trail, and what guides it.
+//! The engine of a search: the clauses with their trail, and the heuristics.
 
 ghost use Rattle.std.specs.Prelude.{◌≡◌, ◌≢◌, ℕ, ◌≤◌, ◌⊎◌, [], Some, true, false, max, length, get_or, OnOk, Err, List};
 ghost use Rattle.ba_lits.specs.Literals.{Literal, IsClause};
@@ -24,7 +24,7 @@ use ba_lits::{Lit, is_clause};
 use ba_watch::Watch;
 use std::alloc::{AllocError, Global};
 
-/// The clauses with their trail, and what guides a search.
+/// The clauses with their trail, and the heuristics of a search.
 pub struct Engine {
     pub alloc: Global,
     pub watch: Watch,
@@ -39,9 +39,9 @@ pub struct Engine {
     pub since: u64,
     /// How many times decisions may be taken back before the next clause is learnt.
     pub backtracks_left: u64,
-    /// A place of the trail where the first literal that is no assumption may have been decided.
+    /// A trail index at which the first literal that is no assumption may have been decided.
     pub first_branch: usize,
-    /// The level of the assumptions where that place was noted.
+    /// The level of the assumptions when that index was noted.
     pub assumption_level: usize,
     /// How many literals were assigned by propagation.
     pub propagated: u64,
@@ -97,7 +97,7 @@ impl Engine {
 
     /// Makes room for the variables up to a number.
     ///
-    /// The one error is want of memory.
+    /// The only error is out of memory.
     pub fn grow(&mut self, variables: u64) -> Result<(), AllocError>
         ensures ok { OnOk result (self.new.watch
             ≡ record self.old.watch { variables = max self.old.watch.variables variables }) }
@@ -108,7 +108,7 @@ impl Engine {
         self.watch.grow(variables)
     }
 
-    /// Takes the literals of the levels above one off the trail.
+    /// Removes the literals of the levels above one from the trail.
     pub fn backtrack(&mut self, level: usize)
         requires { level ≤ decided self.old.watch.reasons }
         ensures watch { self.new.watch ≡ after_backtrack level self.old.watch }
@@ -122,7 +122,7 @@ impl Engine {
 
     /// Adds a clause under a number.
     ///
-    /// The one error is want of memory or of room.
+    /// The only error is out of memory, also if the numbers run out.
     pub fn add(&mut self, lits: &[Lit], number: u64) -> Result<(), AllocError>
         requires clause { IsClause self.old.watch.variables lits.now }
         requires level { (decided self.old.watch.reasons ≡ 0)
@@ -143,7 +143,7 @@ impl Engine {
 
     /// Adds the clauses that a checker has and the watch hasn't.
     ///
-    /// The one error is want of memory or of room.
+    /// The only error is out of memory, also if the numbers run out.
     pub fn take_new(&mut self, checker: &Checker) -> Result<(), SearchError>
         requires taken { AreTaken self.old.watch.clauses self.old.numbers.taken
             (clause_at checker.now.clauses) }
@@ -161,7 +161,7 @@ impl Engine {
 
     /// Adds the clauses that a checker has and the watch hasn't.
     ///
-    /// The one error is want of memory or of room.
+    /// The only error is out of memory, also if the numbers run out.
     fn take_all(&mut self, checker: &Checker) -> Result<(), AllocError>
         requires level { decided self.old.watch.reasons ≡ 0 }
         requires taken { AreTaken self.old.watch.clauses self.old.numbers.taken
@@ -181,7 +181,7 @@ impl Engine {
 
     /// Adds the clause of a number that a checker has, unless the watch has it or the checker has none.
     ///
-    /// The one error is want of memory or of room.
+    /// The only error is out of memory, also if the numbers run out.
     fn take_next(&mut self, checker: &Checker, number: u64) -> Result<(), AllocError>
         requires level { decided self.old.watch.reasons ≡ 0 }
         requires taken { AreTaken self.old.watch.clauses self.old.numbers.taken

@@ -24,7 +24,7 @@ use std::alloc::AllocError;
 impl Engine {
     /// Searches for a model of the live clauses under the assumptions.
     ///
-    /// `SinkFailed` comes only where the sink's faults rose, `Memory` for want of memory.
+    /// `SinkFailed` comes only if the sink's faults rose, `Memory` if memory runs out.
     pub fn search<L: ProofLog, R: SearchRules>(
         &mut self,
         assumptions: &[Lit],
@@ -47,6 +47,7 @@ impl Engine {
         }
         self.grow(log.checker().variables())?;
         self.backtrack(0);
+        self.order.begin(self.alloc, log.checker(), assumptions);
         self.sweep.reset();
         self.candidates.reset();
         self.watch.keeps_facts();
@@ -57,7 +58,8 @@ impl Engine {
         }
     }
 
-    /// Propagates, and learns from a false clause or goes on where there is none. None where the search isn't over.
+    /// Propagates, and learns from a false clause or decides if there is none. `None` if the search isn't
+    /// over.
     fn iterate<L: ProofLog, R: SearchRules>(
         &mut self,
         assumptions: &[Lit],
@@ -91,7 +93,7 @@ impl Engine {
         Ok(None)
     }
 
-    /// Makes true what unit clauses ask for, and gives a clause that is false.
+    /// Propagates, counts the literals, and gives a false clause if there is one.
     fn propagate(&mut self) -> Option<ClauseRef>
         ensures underway { (assumptions : List Literal) (checker : State)
             → IsUnderway assumptions self.old.watch self.old.numbers checker
@@ -114,10 +116,10 @@ impl Engine {
         conflict
     }
 
-    /// What a false clause comes to where no conflict may follow, or where nothing was decided. None where there is a
-    /// clause to learn.
+    /// The answer after a false clause if no conflict may follow, or nothing was decided. `None` if there is
+    /// a clause to learn.
     ///
-    /// The one error is want of memory.
+    /// The only error is out of memory.
     fn conclude(
         &mut self,
         assumptions: &[Lit],

@@ -10,7 +10,7 @@ ghost use Rattle.ba_search.specs.Searching.{Searches};
 
 use crate::rules::SearchRules;
 
-/// No clause of at most two literals is learnt twice, whatever the keep rule.
+/// Law: no clause of at most two literals is learnt twice, whatever the keep rule.
 pub fn learnt_once_law<R: SearchRules>(rules: &R)
     ensures { (good : Judge) (s t : State) (learnt all : List ℕ)
         (before between after : List CertStep)

@@ -24,7 +24,7 @@ use std::alloc::{AllocError, Global};
 const MOST_BACKTRACKS: u64 = 1000;
 
 impl Engine {
-    /// Learns a clause from one that is false, puts it as a step, and goes back to where it is unit.
+    /// Learns a clause from a false one, puts it as a step, and goes back to the level at which it is unit.
     pub fn learn<L: ProofLog>(
         &mut self,
         assumptions: &[Lit],
@@ -60,7 +60,7 @@ impl Engine {
 
     /// Goes back to the level at which a learnt clause is unit, and adds the clause under its number.
     ///
-    /// The one error is want of memory or of room.
+    /// The only error is out of memory, also if the numbers run out.
     fn backjump(&mut self, learnt: &Learnt, number: u64) -> Result<(), AllocError>
         requires clause { IsClause self.old.watch.variables learnt.now.lits }
         requires backed { IsBacked self.old.watch learnt.now.lits learnt.now.back }
@@ -77,7 +77,8 @@ impl Engine {
             .make_room_for_numbers(self.numbers.learnt().len())
     }
 
-    /// Bumps the activities of the variables of a learnt clause, and of those above level 0 that were resolved for it.
+    /// Bumps the activities of the variables of a learnt clause, and of those above level 0 that were
+    /// resolved for it.
     fn bump(&mut self, lits: &[Lit])
         ensures watch { self.new.watch ≡ self.old.watch }
         ensures numbers { self.new.numbers ≡ self.old.numbers }
@@ -92,7 +93,7 @@ impl Engine {
 
 /// The step that learns a clause.
 ///
-/// The one error is want of memory.
+/// The only error is out of memory.
 fn step_of(alloc: Global, learnt: &Learnt) -> Result<CertStep, AllocError>
     ensures { IfOk result (λ step. step ≡ Learn learnt.now.lits learnt.now.hints) }
 {

@@ -1,9 +1,11 @@
-//! Which learnt clauses are discarded, without taking memory.
+//! Reduction of the learnt clauses, without taking memory. At a restart, once 1,000 clauses were learnt since
+//! the last reduction, those go that the keep rule discards. Reasons and the youngest clauses stay. Figures:
+//! `docs/measurements.md`.
 
 ghost use Rattle.std.specs.Prelude.{◌≡◌, ◌≢◌, ℕ, ◌+◌, ◌<◌, ◌≤◌, ◌^◌, ◌++◌, ◌∷◌, [], Bool, true, false, length, get_or, All, if◌then◌else◌};
 ghost use Rattle.std.specs.List.{list_all};
 ghost use Rattle.ba_steps.specs.Steps.{AreNumbers, AreAbove};
-ghost use Rattle.ba_checker.specs.Judging.{apart_by, may_go};
+ghost use Rattle.ba_checker.specs.StepRules.{apart_by, may_go};
 ghost use Rattle.ba_learn.specs.Resolving.{number_at};
 ghost use Rattle.ba_search.specs.Searching.{IsDiscarded};
 ghost use Rattle.ba_search.specs.Iterations.{AreDiscarded, IsNoReason, MarksReasons, MarksOnly};
@@ -17,8 +19,8 @@ use std::alloc::{AllocError, Global};
 use std::marker::Model;
 use std::mem;
 
-/// What a deletion of learnt clauses works with, so that it takes no memory: a mark for each clause, by its number, and a
-/// list whose items mean nothing. Contracts see the marks. None is set but during a deletion.
+/// The memory of deletions of learnt clauses: a mark for each clause, by its number, and an empty list with
+/// room. A contract sees the marks. None is set except during a deletion.
 #[derive(Drop)]
 pub struct Reduction {
     marks: Vec<bool>,
@@ -36,7 +38,7 @@ impl Model for Reduction {
 }
 
 impl Reduction {
-    /// No room. It takes no memory.
+    /// No room yet. It takes no memory.
     pub fn new(alloc: Global) -> Reduction {
         Reduction {
             marks: Vec::new(alloc),
@@ -46,23 +48,23 @@ impl Reduction {
 
     /// Makes room for the mark of a clause.
     ///
-    /// The one error is want of memory.
+    /// The only error is out of memory.
     pub fn make_room_for_mark(&mut self, number: u64) -> Result<(), AllocError>
         requires { number < 2 ^ 62 }
     {
         fill_up(&mut self.marks, number as usize + 1, false)
     }
 
-    /// Makes room for so many numbers.
+    /// Makes room for `count` numbers.
     ///
-    /// The one error is want of memory.
+    /// The only error is out of memory.
     pub fn make_room_for_numbers(&mut self, count: usize) -> Result<(), AllocError> {
         self.numbers.clear();
         self.numbers.reserve(count)
     }
 
-    /// The numbers of the learnt clauses that the keep rule discards and that are no reasons, in their order, as many as
-    /// there is room for. The room goes with them, until [`Reduction::reuse`] takes it back.
+    /// The numbers of the learnt clauses that the keep rule discards and that are no reasons, in order, as
+    /// many as there is room for. The list takes the room with it, until [`Reduction::reuse`] gives it back.
     pub fn discarded<R: SearchRules>(
         &mut self,
         alloc: Global,
@@ -87,13 +89,13 @@ impl Reduction {
         numbers
     }
 
-    /// Takes the list of a deletion for its room.
+    /// Takes the list of a deletion back for its room.
     pub fn reuse(&mut self, numbers: Vec<u64>) {
         self.numbers = numbers;
     }
 }
 
-/// Takes the numbers out of a step that deletes clauses. It takes no memory.
+/// Takes the numbers out of a Delete step. It takes no memory.
 pub fn take_numbers(alloc: Global, step: &mut CertStep) -> Vec<u64> {
     match step {
         CertStep::Delete { clauses } => mem::replace(clauses, Items::new(alloc)).into_vec(),
@@ -101,14 +103,15 @@ pub fn take_numbers(alloc: Global, step: &mut CertStep) -> Vec<u64> {
     }
 }
 
-/// Whether so many clauses were learnt since the last deletion that another may come, and some are no longer young.
+/// Whether so many clauses were learnt since the last deletion that another may come, and some are no longer
+/// young.
 pub fn may_reduce(learnt: &[u64], checker: &Checker) -> bool
     ensures { result ≡ true → apart_by ≤ checker.now.learnt }
 {
     checker.learnt() >= APART_BY && learnt.len() > youth(learnt, checker)
 }
 
-/// The numbers of the learnt clauses that the keep rule discards and that aren't marked as reasons, in their order, as many
+/// The numbers of the learnt clauses that the keep rule discards, without marked reasons, in order, as many
 /// as there is room for.
 fn gather<R: SearchRules>(
     room: Vec<u64>,
@@ -140,7 +143,7 @@ fn gather<R: SearchRules>(
     numbers
 }
 
-/// Adds a number where there is room for it, and tells whether there was.
+/// Adds a number if there is room for it, and tells whether there was.
 fn push_within_room(numbers: &mut Vec<u64>, number: u64) -> bool
     ensures { numbers.new.items
         ≡ (if result then numbers.old.items ++ number ∷ [] else numbers.old.items) }
@@ -148,7 +151,7 @@ fn push_within_room(numbers: &mut Vec<u64>, number: u64) -> bool
     numbers.len() < numbers.capacity() && numbers.push(number).is_ok()
 }
 
-/// Whether the learnt clause whose number stands at a place is discarded by the keep rule and isn't marked as a reason.
+/// Whether the keep rule discards the learnt clause at an index, and its number isn't marked as a reason.
 fn is_discarded<R: SearchRules>(
     marks: &[bool],
     learnt: &[u64],
@@ -177,13 +180,13 @@ fn is_discarded<R: SearchRules>(
     !rules.keeps(lits.len() as u64, later as u64)
 }
 
-/// How many learnt clauses are kept because of their age alone, whatever the keep rule says: half as many as were not
-/// learnt (N. Een, N. Sorensson, An Extensible SAT-solver, on a limit in proportion to the formula).
+/// How many learnt clauses are kept for their age alone: half as many as were not learnt. A limit in
+/// proportion to the formula: N. Een, N. Sorensson, An Extensible SAT-solver.
 fn youth(learnt: &[u64], checker: &Checker) -> usize {
     (checker.last() as usize).saturating_sub(learnt.len()) / 2
 }
 
-/// Marks the clauses because of which literals of the trail are true, where there is room for their marks.
+/// Marks the reasons of the literals of the trail, if there is room for their marks.
 fn mark_reasons(marks: &mut Vec<bool>, watch: &Watch)
     requires { (number : ℕ) → get_or marks.old.items number false ≡ false }
     ensures marked { MarksReasons watch.now (length watch.now.reasons) marks.new.items }
@@ -194,7 +197,7 @@ fn mark_reasons(marks: &mut Vec<bool>, watch: &Watch)
     }
 }
 
-/// Takes the marks of the clauses because of which literals of the trail are true off.
+/// Clears the marks of the reasons of the literals of the trail.
 fn unmark_reasons(marks: &mut Vec<bool>, watch: &Watch)
     requires { MarksOnly watch.now 0 (length watch.now.reasons) marks.old.items }
     ensures { (number : ℕ) → get_or marks.new.items number false ≡ false }
@@ -204,7 +207,7 @@ fn unmark_reasons(marks: &mut Vec<bool>, watch: &Watch)
     }
 }
 
-/// The number of the clause because of which a literal of the trail is true, and 0 where it was decided.
+/// The number of the reason of a literal of the trail, and 0 if it was decided.
 fn reason_number(watch: &Watch, place: usize) -> u64
     requires { place < length watch.now.reasons }
     ensures { result ≡ number_at watch.now place }
@@ -216,7 +219,7 @@ fn reason_number(watch: &Watch, place: usize) -> u64
     }
 }
 
-/// Whether a number is marked. One for whose mark there is no room counts as marked.
+/// Whether a number is marked. One without room for its mark counts as marked.
 fn is_marked(marks: &[bool], number: u64) -> bool
     ensures { result ≡ get_or marks.now number true }
 {
@@ -224,7 +227,7 @@ fn is_marked(marks: &[bool], number: u64) -> bool
     place >= marks.len() || marks[place]
 }
 
-/// Sets the mark of a number where there is room for it.
+/// Sets the mark of a number if there is room for it.
 fn set_mark(marks: &mut Vec<bool>, number: u64, mark: bool)
     ensures this { get_or marks.new.items number mark ≡ mark }
     ensures others { (n : ℕ) (past : Bool) → n ≢ number

@@ -1,7 +1,8 @@
-//! Restarts, and the reduction of the learnt clauses.
+//! Restarts, which take all decisions back so that activities learnt since count, and the reduction at a
+//! restart. Restarts are counted over all calls.
 
 ghost use Rattle.std.specs.Prelude.{◌≡◌, ◌<◌, ◌≤◌, None, OnOk, Err};
-ghost use Rattle.ba_checker.specs.Judging.{apart_by};
+ghost use Rattle.ba_checker.specs.StepRules.{apart_by};
 ghost use Rattle.ba_search.specs.Engines.{CountsNone, GoesOn, IsAtWork, LearnsNothing, left_in};
 ghost use Rattle.ba_search.specs.Searching.{Leaves, Ran};
 
@@ -15,8 +16,8 @@ use ba_lits::Lit;
 use ba_steps::CertStep;
 
 impl Engine {
-    /// Takes all decisions back, and deletes the clauses that the keep rule discards once enough were learnt since the
-    /// last deletion.
+    /// Takes all decisions back. Once enough clauses were learnt since the last deletion, it deletes those
+    /// that the keep rule discards.
     pub fn restart<L: ProofLog, R: SearchRules>(
         &mut self,
         assumptions: &[Lit],

@@ -3,7 +3,7 @@
 ghost use Rattle.std.specs.Prelude.{◌≡◌, ℕ, ◌≤◌, Bool, true};
 ghost use Rattle.ba_search.specs.Rules.{IsKeepRule, IsRestartRule};
 
-/// When a search restarts, and which learnt clauses it keeps.
+/// The restart rule and the keep rule of a search, which its caller chooses.
 pub trait SearchRules {
     // The rules may be asked, and answer as they should.
     ghost are_rules: { Self → Type 0 };
@@ -16,15 +16,15 @@ pub trait SearchRules {
         requires { are_rules self.now }
         ensures positive { 1 ≤ result };
 
-    /// Whether a learnt clause is kept, by its width, how many literals it has, and its age, how many clauses the search
-    /// has learnt after it. Clauses of at most two literals are kept.
+    /// Whether a learnt clause is kept. Its width is how many literals it has, its age how many clauses were
+    /// learnt after it. Clauses of at most two literals are kept.
     fn keeps(&self, width: u64, age: u64) -> bool
         requires { are_rules self.now }
         ensures rule { keeping self.now width age result }
         ensures narrow { width ≤ 2 → result ≡ true };
 }
 
-/// The rules that two functions are: `restart` and `keeps` of [`SearchRules`].
+/// Rules by two functions, which are `restart` and `keeps` of [`SearchRules`].
 #[derive(Drop)]
 pub struct RulesBy<R, K> {
     pub restart: R,

@@ -17,24 +17,25 @@ use std::alloc::{AllocError, Global};
 use std::marker::Model;
 use thiserror::Error;
 
-/// What a search under assumptions comes to.
+/// The answer of a search under assumptions.
 #[derive(Drop)]
 pub enum Answer {
     /// An assignment of all variables that satisfies every live clause and the assumptions.
     Model(Assignment),
-    /// A clause that follows by its hints from the live clauses and negates assumptions alone. It isn't put yet.
+    /// A clause that follows by its hints from the live clauses and negates assumptions alone. It isn't put
+    /// as a step yet.
     Core(Learnt),
     /// The stated number of conflicts is spent.
     Spent,
 }
 
-/// Why a search gives up. It answers the same from then on.
+/// Why a search gives up. It answers the same error from then on.
 #[derive(Clone, Copy, Debug, PartialEq, Eq, Error)]
 pub enum SearchError {
     /// The sink of steps failed.
     #[error("the sink failed")]
     SinkFailed,
-    /// There was no memory.
+    /// Out of memory.
     #[error("out of memory")]
     Memory,
 }
@@ -64,7 +65,7 @@ impl From<SinkError> for SearchError {
     }
 }
 
-/// The error that an answer is.
+/// The error of an answer.
 fn failure_of<T>(answer: &Result<T, SearchError>) -> Option<SearchError>
     ensures { result ≡ failure_of answer.now }
 {
@@ -113,9 +114,9 @@ impl<R> Model for Search<R> {
 }
 
 impl<R: Fn(u64) -> u64 + Drop, K: Fn(u64, u64) -> bool + Drop> Search<RulesBy<R, K>> {
-    /// A search over the clauses of a formula, with numbers from 1 on, by the rules that these functions are.
+    /// A search over the clauses of a formula, with numbers from 1 on, by the rules of these functions.
     ///
-    /// The one error is want of memory.
+    /// The only error is out of memory.
     pub fn new(
         alloc: Global,
         formula: &Formula,
@@ -135,7 +136,7 @@ impl<R: Fn(u64) -> u64 + Drop, K: Fn(u64, u64) -> bool + Drop> Search<RulesBy<R,
 impl<R: SearchRules + Drop> Search<R> {
     /// A search over the clauses of a formula, with numbers from 1 on, by these rules.
     ///
-    /// The one error is want of memory.
+    /// The only error is out of memory.
     pub fn by_rules(alloc: Global, formula: &Formula, rules: R) -> Result<Search<R>, AllocError>
         requires rules { R.are_rules rules }
         ensures starts { IfOk result (Starts formula.now) }
@@ -155,7 +156,7 @@ impl<R: SearchRules + Drop> Search<R> {
 
     /// Adds the clauses that the checker has and the search hasn't, each once.
     ///
-    /// The one new error is want of memory. A search that answered an error answers it from then on.
+    /// The only new error is out of memory. A search that answered an error answers it from then on.
     pub fn take_new<L: ProofLog>(&mut self, log: &L) -> Result<(), SearchError>
         requires part { self.old.failure ≡ None
             → ArePart self.old.clauses (clause_at (L.log log.now).checker.clauses) }
@@ -173,19 +174,20 @@ impl<R: SearchRules + Drop> Search<R> {
         result
     }
 
-    /// How many literals were assigned by propagation so far, for measurements. It never falls; that it counts every one
-    /// is tested alone.
+    /// How many literals propagation has assigned so far, for measurements. It never falls; only tests show
+    /// that it counts all.
     pub fn propagated(&self) -> u64
         ensures { result ≡ self.now.propagated }
     {
         self.engine.propagated
     }
 
-    /// Searches for a model of the live clauses under the assumptions. Each clause that is learnt on the way is put as a
-    /// step, and so is each deletion, which comes at a restart. Conflicts count until the checker's stated number is spent.
+    /// Searches for a model of the live clauses under the assumptions. Each learnt clause is put as a step,
+    /// and so is each deletion, which comes at a restart. Conflicts count until the checker's stated number
+    /// is spent.
     ///
-    /// `SinkFailed` comes only where the sink's faults rose, `Memory` for want of memory. A search that answered an
-    /// error answers it from then on. Steps that were put before an error stay put.
+    /// `SinkFailed` comes only if the sink's faults rose, `Memory` if memory runs out. A search that answered
+    /// an error answers it from then on. Steps that were put before an error stay put.
     pub fn solve<L: ProofLog>(
         &mut self,
         assumptions: &[Lit],

@@ -1,7 +1,6 @@
-//! Simulation: the values of all variables in many runs of what a formula describes.
-//!
-//! Where clauses define variables by earlier ones, as those of gates do, values of the variables that none defines give
-//! all others theirs. Literals that are never both true in many such runs may be so in none.
+//! Simulation: the values of all variables in many random runs. Clauses of gates define variables by earlier
+//! ones. So values of the variables that none defines give all others theirs. Literals that are never both
+//! true in many runs may be so in none. Sweeping tries that (`sweep.rt`).
 
 use ba_checker::Checker;
 use ba_lits::Lit;
@@ -11,7 +10,7 @@ use rand_xoshiro::Xoshiro256PlusPlus;
 use rand_xoshiro::rand_core::{Rng, SeedableRng};
 use std::alloc::{AllocError, Global};
 
-/// How many clauses all passes over them may look at, if the fewest passes look at no more.
+/// How many clauses all passes over them may visit, unless the fewest passes visit more.
 const MOST_CLAUSES: u64 = 1 << 24;
 
 /// The fewest passes, each of which simulates 64 runs.
@@ -23,15 +22,15 @@ const MOST_PASSES: u64 = 128;
 /// Where the pseudo-random values begin.
 const SEED: u64 = 1;
 
-/// Two literals that no simulated run made both true; twice the same where none made it true.
+/// Two literals that no simulated run made both true; twice the same if none made it true.
 #[derive(Clone, Copy, Drop)]
 pub struct Hypothesis {
     pub first: Lit,
     pub second: Lit,
 }
 
-/// The values of a variable in the runs of the present pass, a bit each, and a hash of those of all passes. The hash is that
-/// of the negation where the flip is all ones.
+/// The values of a variable in the runs of the present pass, a bit each, and a hash of those of all passes.
+/// The hash is that of the negation if the flip is all ones.
 #[derive(Clone, Copy, Drop)]
 struct Signature {
     values: u64,
@@ -39,18 +38,18 @@ struct Signature {
     hash: u64,
 }
 
-/// The signature of each variable by its number, and that of a variable which is never true at place 0.
+/// The signature of each variable by its number; index 0 has that of a variable which is never true.
 #[derive(Drop)]
 struct Simulation {
     random: Xoshiro256PlusPlus,
     signatures: Vec<Signature>,
 }
 
-/// What simulated runs suggest of the variables without a value on the trail: that two are equal, which are two hypotheses,
-/// or that one has a single value. They come by the variable of the second literal. In the runs the variables that no
-/// clause defines have their values on the trail, and where they have none random ones.
+/// What simulated runs suggest of the variables without a value on the trail. Two are equal, which makes two
+/// hypotheses, or one has a single value. They come by the variable of the second literal. In the runs a
+/// variable that no clause defines has its value on the trail, or random ones.
 ///
-/// The one error is want of memory.
+/// The only error is out of memory.
 pub fn hypotheses(
     alloc: Global,
     watch: &Watch,
@@ -78,7 +77,7 @@ fn passes(checker: &Checker) -> u64 {
 }
 
 impl Signature {
-    /// Flips the values where they begin with true.
+    /// Flips the values if the first is true.
     fn choose_flip(&mut self) {
         self.flip = mask(self.values & 1 == 1);
     }
@@ -93,7 +92,7 @@ impl Signature {
 impl Simulation {
     /// No runs.
     ///
-    /// The one error is want of memory.
+    /// The only error is out of memory.
     fn new(alloc: Global, watch: &Watch) -> Result<Simulation, AllocError> {
         let none = Signature {
             values: 0,
@@ -116,8 +115,8 @@ impl Simulation {
         }
     }
 
-    /// Gives each variable its value on the trail, or else random values, which often are those of the variable before, so
-    /// that words of many equal places come up.
+    /// Gives each variable its value on the trail, or else random values. These are often those of the
+    /// variable before, so that words of many equal bits come up.
     fn draw(&mut self, watch: &Watch, pass: u64) {
         let mut values = 0;
         for variable in 1..=watch.variables() {
@@ -129,23 +128,17 @@ impl Simulation {
         }
     }
 
-    /// Takes a clause that wasn't learnt for one that defines the greatest of its variables, if that is none below the
-    /// greatest one that was defined: where its other literals are false its last is true. The greatest one then.
+    /// Uses a clause as a definition of its greatest variable, if it is one. If its other literals are false,
+    /// its last is true. It gives the greatest variable defined so far.
     fn define(&mut self, checker: &Checker, number: u64, greatest: u64) -> u64 {
-        if checker.is_learnt(number) {
-            return greatest;
-        }
-        let Some([others @ .., last]) = checker.clause(number) else {
+        let Some((last, others)) = definition(checker, number, greatest) else {
             return greatest;
         };
-        if others.is_empty() || last.variable() < greatest {
-            return greatest;
-        }
         let mut forced = u64::MAX;
         for lit in others {
             forced &= !self.values_of(*lit);
         }
-        let values = self.values_of(*last) | forced;
+        let values = self.values_of(last) | forced;
         self.set_values(last.variable(), values ^ mask(last.is_negated()));
         last.variable()
     }
@@ -168,7 +161,7 @@ impl Simulation {
 
     /// What the runs suggest of the variables without a value on the trail.
     ///
-    /// The one error is want of memory.
+    /// The only error is out of memory.
     fn hypotheses(&self, alloc: Global, watch: &Watch) -> Result<Vec<Hypothesis>, AllocError> {
         let mut hypotheses = Vec::new(alloc);
         let mut classes = IndexMap::new(alloc);
@@ -181,10 +174,10 @@ impl Simulation {
         Ok(hypotheses)
     }
 
-    /// Adds what the runs suggest of a variable: that it is equal to the first of its class, where it isn't the first, or
-    /// that it has one value.
+    /// Adds what the runs suggest of a variable: that it equals the first of its class, or that it has a
+    /// single value.
     ///
-    /// The one error is want of memory.
+    /// The only error is out of memory.
     fn suggest(
         &self,
         positive: Lit,
@@ -225,7 +218,22 @@ impl Simulation {
     }
 }
 
-/// Random bits of which about one in two is set, or where they are rarer one in four, in eight, and so on.
+/// The last literal of a clause and its others, if it defines its greatest variable: it wasn't learnt, and no
+/// greater variable was defined before.
+pub fn definition(checker: &Checker, number: u64, greatest: u64) -> Option<(Lit, &[Lit])> {
+    if checker.is_learnt(number) {
+        return None;
+    }
+    let [others @ .., last] = checker.clause(number)? else {
+        return None;
+    };
+    if others.is_empty() || last.variable() < greatest {
+        return None;
+    }
+    Some((*last, others))
+}
+
+/// Random bits, of which about one in 2^(rarity + 1) is set.
 fn rare_bits(random: &mut Xoshiro256PlusPlus, rarity: u64) -> u64 {
     let mut bits = random.next_u64();
     for _ in 0..rarity {

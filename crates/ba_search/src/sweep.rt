@@ -1,7 +1,7 @@
-//! Sweeping: where a search is long, literals that simulated runs never made both true are decided to be so, each pair
-//! until the first conflict and in the order of their variables, since what is learnt of some helps with the next and
-//! with all of the search (F. Lu, L.-C. Wang, K.-T. Cheng, R. Huang, A Circuit SAT Solver With Signal Correlation
-//! Guided Learning).
+//! Sweeping (F. Lu, L.-C. Wang, K.-T. Cheng, R. Huang, A Circuit SAT Solver With Signal Correlation Guided
+//! Learning). In a long search, pairs of literals that simulated runs never made both true are decided to be
+//! both true. Each pair is tried until its first conflict, in the order of the variables. What is learnt of
+//! one pair helps with the next, and with the whole search. Figures: `docs/measurements.md`.
 
 ghost use Rattle.std.specs.Prelude.{◌≤◌, IfSome};
 ghost use Rattle.ba_watch.specs.Trails.{decided};
@@ -13,32 +13,32 @@ use ba_watch::Watch;
 use std::alloc::{AllocError, Global};
 use std::mem;
 
-/// How many conflicts a search has before its first sweep. Before each further one it has twice as many as before the last,
-/// those of a last one that tried all its hypotheses among them.
+/// How many conflicts a search has before its first sweep. Each further sweep waits twice as long as the last
+/// one. Conflicts of a sweep that tried all its hypotheses count for that.
 const FIRST_PATIENCE: u64 = 10_000;
 
-/// How many times the conflicts that came before it a sweep takes at most.
+/// A sweep takes at most this many times the conflicts that came before it.
 const GREATEST_SHARE: u64 = 3;
 
-/// Hypotheses that are tried one after the other, and when.
+/// Hypotheses that are tried one after the other, and the state of the trial.
 #[derive(Drop)]
 pub struct Sweep {
     hypotheses: Vec<Hypothesis>,
-    /// The place of the hypothesis that is tried.
+    /// The index of the hypothesis that is tried.
     next: usize,
     /// The level at which its trial began, if it did.
     base: Option<usize>,
     /// Whether a conflict came in its trial.
     is_tried: bool,
-    /// How many conflicts came since the last sweep began, or since it was given up.
+    /// How many conflicts came since the last sweep began or was given up.
     conflicts: u64,
-    /// After how many conflicts a sweep comes.
+    /// After how many conflicts the next sweep comes.
     patience: u64,
-    /// How many conflicts this sweep takes at most.
+    /// The limit on conflicts of this sweep.
     limit: u64,
-    /// Whether a restart came since anything but assumptions and candidates was decided.
+    /// Whether a restart came since a literal other than assumptions and candidates was decided.
     has_restarted: bool,
-    /// The last literal that was decided before the sweep. The sweep ends where it is true no more.
+    /// The last literal that was decided before the sweep. The sweep ends when it is no longer true.
     under: Option<Lit>,
 }
 
@@ -58,7 +58,7 @@ impl Sweep {
         }
     }
 
-    /// Begins with another search.
+    /// Resets the sweep for another search.
     pub fn reset(&mut self) {
         self.stop();
         self.patience = FIRST_PATIENCE;
@@ -92,10 +92,10 @@ impl Sweep {
         }
     }
 
-    /// Makes hypotheses where all assumptions and candidates have values, a restart came before anything else was decided,
-    /// and the search is long enough.
+    /// Makes hypotheses if all assumptions and candidates have values, a restart came before anything else
+    /// was decided, and the search is long enough.
     ///
-    /// The one error is want of memory.
+    /// The only error is out of memory.
     pub fn prepare(
         &mut self,
         alloc: Global,
@@ -114,8 +114,8 @@ impl Sweep {
         Ok(())
     }
 
-    /// The level to go back to where the trial of a hypothesis is over; None where there is none or it goes on, or where no
-    /// decisions may be taken back.
+    /// The level to go back to when the trial of a hypothesis is over. `None` if there is none or it goes on,
+    /// or if no decisions may be taken back.
     pub fn level_after_trial(&mut self, watch: &Watch, backtracks_left: u64) -> Option<usize>
         ensures level { IfSome result (λ level. level ≤ decided watch.now.reasons) }
         ensures left { IfSome result (λ level. 1 ≤ backtracks_left) }
@@ -147,8 +147,8 @@ impl Sweep {
             || value(watch, hypothesis.second) == Some(false)
     }
 
-    /// A literal of the hypothesis that is tried, if one has no value: to be decided next, so that a conflict follows where
-    /// the hypothesis holds.
+    /// A literal of the tried hypothesis without a value, if there is one. It is decided next, so that a
+    /// conflict follows if the hypothesis holds.
     pub fn literal_to_try(&mut self, watch: &Watch) -> Option<Lit> {
         let hypothesis = self.hypotheses.get(self.next).copied()?;
         if self.is_left(watch) {
@@ -169,7 +169,7 @@ impl Sweep {
         }
     }
 
-    /// Whether the last literal that was decided before the sweep is true no more.
+    /// Whether the last literal that was decided before the sweep is no longer true.
     fn is_left(&self, watch: &Watch) -> bool {
         match self.under {
             Some(lit) => value(watch, lit) != Some(true),

@@ -5,10 +5,10 @@ use Rattle.ba_numbers.specs.declared.ids.At.{At}
 use Rattle.ba_numbers.specs.declared.ids.VarId.{VarId}
 use Rattle.ba_tree.specs.declared.tree.StmtKind.{StmtKind}
 use Rattle.ba_tree.specs.declared.tree.Variable.{Variable}
-use Rattle.ba_statements.specs.Adding.{State, at_place, extended, behind_part, before_of, with_added, with_constant, with_judged, with_number, with_variable}
+use Rattle.ba_statements.specs.Adding.{State, state_with, extended, behind_part, before_of, with_added, with_constant, with_inferred, with_number, with_variable}
 use Rattle.ba_typing.specs.Declarations.{Added, nothing_added, ◌and◌, behind, Part, ◌then◌, nothing, in_order, numbered, faults_added, add_constant, add_tag, add_variable, is_declared, next_name}
 use Rattle.ba_typing.specs.Faults.{limit_faults, statement_limit, variable_limit, twice_faults}
-use Rattle.ba_expressions.specs.Judging.{after, least_with, with_faults}
+use Rattle.ba_expressions.specs.Inferring.{after, least_with, with_faults}
 use Rattle.ba_typing.specs.Names.{Scope, is_declared_here, knowing, name_of}
 use Rattle.ba_tree.specs.Trees.{StmtTree}
 use Rattle.ba_typing.specs.declared.fault.Fault.{Fault}
@@ -108,7 +108,7 @@ behind-nothing s =
     ∙ ap (λ w. record s { scope = knowing [] s.scope; work = w }) (with_added-nothing s.work)
     ∙ ap (λ t. record (extended s nothing_added) { stmts = t }) (sym (append-nil s.stmts))
 
--- PARTS that declare nothing, where the code leaves the scope as it is
+-- PARTS that declare nothing, if the code leaves the scope as it is
 
 pub in-scope : (part : Part) (a : Added) (scope : Scope) (w v : Work) (old new : List StmtTree)
     → part scope (before_of w) ≡ a → a.entries ≡ [] → v ≡ with_added w a → new ≡ old ++ a.stmts
@@ -145,10 +145,10 @@ pub no-part : {A : Type 0} (part : A → Part) (xs : List A) (i : ℕ) (s whole 
 no-part part xs i s whole all rest = behind-nothing s
     ∙ ap (λ ys. behind_part (in_order (map part ys)) s) (sym (none_left xs i all)) ∙ rest
 
--- A NUMBERED STATEMENT, whose expressions are judged before
+-- A NUMBERED STATEMENT, whose expressions are inferred before
 
 pub numbered-work : (w : Work) (at : At) (k : StmtKind) (typed : StmtTree) (calls : ℕ) (faults : List Fault)
-    → with_number (with_judged w calls faults) at k ≡ with_added w (numbered (before_of w) at k typed calls
+    → with_number (with_inferred w calls faults) at k ≡ with_added w (numbered (before_of w) at k typed calls
     faults)
 numbered-work w at k typed calls faults =
     let limit = limit_faults statement_limit (length w.statements + 1) at in
@@ -165,21 +165,21 @@ pub numbered-is : (part : Part) (scope : Scope) (w v u : Work) (old new : List S
     StmtKind)
     (typed : StmtTree) (calls : ℕ) (faults : List Fault)
     → part scope (before_of w) ≡ numbered (before_of w) at k typed calls faults
-    → v ≡ with_judged w calls faults → u ≡ with_number v at k → new ≡ old ++ typed ∷ []
-    → at_place scope u new ≡ behind_part part (at_place scope w old)
-numbered-is part scope w v u old new at k typed calls faults is judged counted pushed =
+    → v ≡ with_inferred w calls faults → u ≡ with_number v at k → new ≡ old ++ typed ∷ []
+    → state_with scope u new ≡ behind_part part (state_with scope w old)
+numbered-is part scope w v u old new at k typed calls faults is inferred counted pushed =
     in-scope part (numbered (before_of w) at k typed calls faults) scope w u old new is refl
-    (counted ∙ ap (λ v. with_number v at k) judged ∙ numbered-work w at k typed calls faults) pushed
+    (counted ∙ ap (λ v. with_number v at k) inferred ∙ numbered-work w at k typed calls faults) pushed
 
 -- WHAT IS ADDED IN PARTS
 
 pub adds-is : (part : Part) (a : Added) (scope k : Scope) (w v : Work) (old new : List StmtTree)
     → part scope (before_of w) ≡ a → k ≡ knowing a.entries scope → v ≡ with_added w a → new ≡ old ++ a.stmts
-    → at_place k v new ≡ behind_part part (at_place scope w old)
+    → state_with k v new ≡ behind_part part (state_with scope w old)
 unfolding behind_part
 adds-is part a scope k w v old new is knows works pushed =
-    let s = at_place scope w old in
-    ap (λ k. at_place k v new) knows ∙ ap (λ w. at_place (knowing a.entries scope) w new) works
+    let s = state_with scope w old in
+    ap (λ k. state_with k v new) knows ∙ ap (λ w. state_with (knowing a.entries scope) w new) works
     ∙ ap (λ t. record (extended s a) { stmts = t }) pushed ∙ ap (extended s) (sym is)
 
 -- calls and faults alone
@@ -187,7 +187,7 @@ abbrev pub counted : ℕ → List Fault → Added
 counted calls faults = record (faults_added faults) { calls = calls }
 
 pub counted-work : (w : Work) (calls : ℕ) (faults : List Fault)
-    → with_judged w calls faults ≡ with_added w (counted calls faults)
+    → with_inferred w calls faults ≡ with_added w (counted calls faults)
 counted-work w calls faults =
     let whole = with_added w (counted calls faults) in
     ap (λ v. record w { variables = v; tally = whole.tally }) (sym (append-nil w.variables))
@@ -211,7 +211,7 @@ faults-work w faults =
 
 pub faults-part : (faults : List Fault) (scope : Scope) (w v : Work) (stmts : List StmtTree)
     → v ≡ record w { tally = with_faults w.tally faults }
-    → at_place scope v stmts ≡ behind_part (λ scope n. faults_added faults) (at_place scope w stmts)
+    → state_with scope v stmts ≡ behind_part (λ scope n. faults_added faults) (state_with scope w stmts)
 faults-part faults scope w v stmts is = in-scope (λ scope n. faults_added faults) (faults_added faults)
     scope w v stmts stmts
     refl refl (is ∙ faults-work w faults) (sym (append-nil stmts))
@@ -274,7 +274,7 @@ pub variable-is : (functions : List Signature) (at : At) (name : List ℕ) (v : 
     → mid ≡ record w { tally = with_faults w.tally (twice_faults (is_declared scope functions name) at) }
     → new ≡ with_variable mid at v → var ≡ record { 0 = length mid.variables }
     → k ≡ knowing (variable_entry name scope.depth var v ∷ []) scope
-    → at_place k new stmts ≡ behind_part (add_variable functions at name v) (at_place scope w stmts)
+    → state_with k new stmts ≡ behind_part (add_variable functions at name v) (state_with scope w stmts)
 variable-is functions at name v scope k w mid new var stmts twice works is knows =
     adds-is (add_variable functions at name v) (add_variable functions at name v scope (before_of w)) scope
     k w new stmts stmts
@@ -290,7 +290,7 @@ pub constant-is : (functions : List Signature) (at : At) (name : List ℕ) (z : 
     (w mid new : Work) (stmts : List StmtTree)
     → mid ≡ record w { tally = with_faults w.tally (twice_faults (is_declared scope functions name) at) }
     → new ≡ with_constant mid at → k ≡ knowing (constant_entry name scope.depth z ∷ []) scope
-    → at_place k new stmts ≡ behind_part (add_constant functions at name z) (at_place scope w stmts)
+    → state_with k new stmts ≡ behind_part (add_constant functions at name z) (state_with scope w stmts)
 constant-is functions at name z scope k w mid new stmts twice works knows =
     adds-is (add_constant functions at name z) (add_constant functions at name z scope (before_of w)) scope
     k w new stmts stmts refl knows
@@ -305,7 +305,7 @@ pub tag-is : (tag : Token) (scope k : Scope) (w new : Work) (stmts : List StmtTr
       tally = with_faults w.tally (twice_faults (is_declared_here space.Tags scope (name_of tag)) tag.at);
     }
     → k ≡ knowing (tag_entry (name_of tag) scope.depth ∷ []) scope
-    → at_place k new stmts ≡ behind_part (add_tag (Some tag)) (at_place scope w stmts)
+    → state_with k new stmts ≡ behind_part (add_tag (Some tag)) (state_with scope w stmts)
 tag-is tag scope k w new stmts twice knows =
     adds-is (add_tag (Some tag)) (add_tag (Some tag) scope (before_of w)) scope k w new stmts stmts refl knows
     (twice ∙ faults-work w (twice_faults (is_declared_here space.Tags scope (name_of tag)) tag.at))

@@ -1,4 +1,4 @@
--- What assignments add, from the judgements of what is assigned to and of what is assigned.
+-- What assignments add, from the inferences of what is assigned to and of what is assigned.
 use Rattle.std.proofs.Common.{◌≡◌, ℕ, ◌+◌, nat_lt, Bool, ◌&&◌, pos, Option, None, Some, option_map, Result, Ok, Err, List, [], ◌∷◌, ◌++◌, refl, sym, ◌∙◌, ap, subst, arith, append-nil}
 use Rattle.std.specs.Option.{is_some}
 use Rattle.std.specs.Prelude.{IfOk}
@@ -15,20 +15,20 @@ use Rattle.ba_tree.specs.declared.tree.Expr.{Expr}
 use Rattle.ba_tree.specs.declared.tree.Stmt as code
 use Rattle.ba_tree.specs.declared.tree.StmtKind.{StmtKind}
 use Rattle.ba_tree.specs.declared.tree.StmtKind.TheVariants as kind
-use Rattle.ba_statements.specs.Adding.{Assigns, GivesTarget, JudgesTarget, Numbers, at_place, before_of, behind_part, index_tree, typed_target_of, with_number}
+use Rattle.ba_statements.specs.Adding.{Assigns, GivesTarget, InfersTarget, Numbers, state_with, before_of, behind_part, index_tree, typed_target_of, with_number}
 use Rattle.ba_typing.specs.Declarations.{next_stmt}
 use Rattle.ba_typing.specs.Expressions.{Typed, Typing, array_of, element_type, typed_constant, typed_element, typed_name, tree_as, variable_type, with_more_faults}
 use Rattle.ba_numbers.specs.Types.{promoted}
 use Rattle.ba_typing.specs.Faults.{array_name_faults, fault_if, height_limit, limit_faults, target_name_faults, value_name_faults}
-use Rattle.ba_expressions.specs.Judging.{Judges, Stands, after, with_faults}
+use Rattle.ba_expressions.specs.Inferring.{Infers, Stands, after, with_faults}
 use Rattle.ba_typing.specs.Names.{Scope, meaning_of, name_of}
 use Rattle.ba_typing.specs.Statements.{TypedTarget, add_assignment, assign_tree, assigned_tree, changed, index_faults, index_typing, kind_of_target, one, typed_target, var_of}
 use Rattle.ba_tree.specs.Trees.{ExprTree, StmtTree, tree_of_expr, tree_of_stmt}
 use Rattle.ba_tree.specs.Trees as tree
-use Rattle.ba_statements.specs.declared.assignments.JudgedTarget.{JudgedTarget}
+use Rattle.ba_statements.specs.declared.assignments.InferredTarget.{InferredTarget}
 use Rattle.ba_typing.specs.declared.fault.Cause.TheVariants.{CallInIndex}
 use Rattle.ba_typing.specs.declared.fault.Fault.{Fault}
-use Rattle.ba_expressions.specs.declared.judged.Judged.{Judged}
+use Rattle.ba_expressions.specs.declared.inferred.Inferred.{Inferred}
 use Rattle.ba_typing.specs.declared.meanings.Meaning.{Meaning}
 use Rattle.ba_typing.specs.declared.meanings.Meaning.TheVariants as meaning
 use Rattle.ba_expressions.specs.declared.tally.Tally.{Tally}
@@ -85,7 +85,7 @@ variable-target-is at name scope old mid new v t m means names types begun named
           ∙ after-nothing (with_faults old fs)),
     )
 
--- there are more calls behind than before where some were added
+-- there are more calls after than before if some were added
 calls-more : (n k : ℕ) → nat_lt n (n + k) ≡ nat_lt 0 k
 calls-more n k = grind (arith, nat_tests)
 
@@ -95,23 +95,23 @@ element-tally : (at name_at : At) (m : Meaning) (changes : Bool) (i : Typed) (ol
     ++ fault_if (changes && nat_lt 0 i.calls) CallInIndex name_at)
     → new ≡ after old (typed_element name_at m i).calls
     ((typed_element name_at m i).faults ++ index_faults at name_at changes (Some i))
-element-tally at name_at m changes i old first second new named judged more =
+element-tally at name_at m changes i old first second new named inferred more =
     let s = typed_element name_at m i in
     faults-behind old second new s.calls s.faults (index_faults at name_at changes (Some i))
     (after-as old second i.calls s.calls (array_name_faults m name_at ++ i.faults) s.faults
     (sym (element-calls name_at m i)) (sym (element-faults name_at m i))
-    (faults-then old first second i.calls (array_name_faults m name_at) i.faults named judged)) more
+    (faults-then old first second i.calls (array_name_faults m name_at) i.faults named inferred)) more
 
 pub element-target-is : (at name_at : At) (name : List ℕ) (op : Option BinOp) (typing : Typing) (scope :
     Scope)
-    (old first second new : Tally) (v : VarId) (t u : CType) (m : Meaning) (j : Judged) (e : Expr)
+    (old first second new : Tally) (v : VarId) (t u : CType) (m : Meaning) (j : Inferred) (e : Expr)
     (has_call : Bool)
     → m ≡ meaning_of scope name → v ≡ array_of m → t ≡ element_type m
     → first ≡ with_faults old (array_name_faults m name_at) → Stands j (typing scope first.calls) first second
     → has_call ≡ (is_some op && nat_lt first.calls second.calls)
     → new ≡ with_faults second (limit_faults height_limit j.height at ++ fault_if has_call CallInIndex
     name_at)
-    → u ≡ promoted j.t → ((s : Typed) → Judges j s → tree_of_expr e ≡ tree_as u s)
+    → u ≡ promoted j.t → ((s : Typed) → Infers j s → tree_of_expr e ≡ tree_as u s)
     → GivesTarget at name_at op (typed_target name_at name (Some typing) scope old.calls) old new (record {
       var = v;
       t = t;
@@ -142,24 +142,24 @@ abbrev value_at : Target → Scope → ℕ → Option Index → Typed
 value_at target scope calls o =
     (typed_target target.name.at (name_of target.name) (index_typing o) scope calls).expression
 
--- a judgement keeps no faults
-with-more : {E : Type 0} (r : Result Judged E) (fs : List Fault) (s : Typed) → IfOk r (λ j. Judges j s)
-    → IfOk r (λ j. Judges j (with_more_faults fs s))
+-- a inference keeps no faults
+with-more : {E : Type 0} (r : Result Inferred E) (fs : List Fault) (s : Typed) → IfOk r (λ j. Infers j s)
+    → IfOk r (λ j. Infers j (with_more_faults fs s))
 with-more (Ok j) fs s is = ap (with_more_faults fs) is
 with-more (Err e) fs s is = is
 
 module _ {E : Type 0} (target : Target) (scope : Scope) (calls : ℕ) (name : List ℕ) (m : Meaning)
-    (r : Result Judged E) where
+    (r : Result Inferred E) where
   pub name-value : name ≡ name_of target.name → m ≡ meaning_of scope name → target.index ≡ None
-      → IfOk r (λ j. Judges j (typed_name target.name.at name m))
-      → IfOk r (λ j. Judges j (typed_target_of target scope calls).expression)
+      → IfOk r (λ j. Infers j (typed_name target.name.at name m))
+      → IfOk r (λ j. Infers j (typed_target_of target scope calls).expression)
   name-value names means none gives =
       let at = target.name.at in
       let k = meaning_of scope (name_of target.name) in
-      subst (λ o. IfOk r (λ j. Judges j (value_at target scope calls o))) (sym none)
+      subst (λ o. IfOk r (λ j. Infers j (value_at target scope calls o))) (sym none)
       (with-more r (target_name_faults k at) (typed_name at (name_of target.name) k)
-      (subst (λ n. IfOk r (λ j. Judges j (typed_name at n (meaning_of scope n)))) names
-      (subst (λ m. IfOk r (λ j. Judges j (typed_name at name m))) means gives)))
+      (subst (λ n. IfOk r (λ j. Infers j (typed_name at n (meaning_of scope n)))) names
+      (subst (λ m. IfOk r (λ j. Infers j (typed_name at name m))) means gives)))
 
 -- THE STATEMENT
 
@@ -202,37 +202,38 @@ store-kind k None e same some =
     absurd (let no_index : ⊥ = cc in no_index)
 store-kind k (Some i) e same some = refl
 
-pub assigns-is : (at : At) (s : TypedTarget) (e : Typed) (j : Judged) (w u : Work) (mid : Tally) (k :
+pub assigns-is : (at : At) (s : TypedTarget) (e : Typed) (j : Inferred) (w u : Work) (mid : Tally) (k :
     StmtKind)
     (stmt : StmtId) (typed : StmtTree) (olds news : List StmtTree)
-    → Judges j e → mid ≡ with_faults w.tally (limit_faults height_limit j.height at)
+    → Infers j e → mid ≡ with_faults w.tally (limit_faults height_limit j.height at)
     → Numbers at k stmt (record w { tally = mid }) u → k ≡ kind_of_target s.index
     → typed ≡ assigned_tree stmt s e → news ≡ olds ++ typed ∷ [] → Assigns at s e w u olds news
-assigns-is at s e j w u mid k stmt typed olds news judges limits counted kinds is pushed =
+assigns-is at s e j w u mid k stmt typed olds news infers limits counted kinds is pushed =
     let limited = λ (h : ℕ). record w { tally = with_faults w.tally (limit_faults height_limit h at) } in (
       counted.1 ∙ ap (λ k. with_number (record w { tally = mid }) at k) kinds
           ∙ ap (λ t. with_number (record w { tally = t }) at (kind_of_target s.index)) limits
           ∙ ap (λ h. with_number (limited h) at (kind_of_target s.index))
-          (ap (λ (s : Typed). s.height) judges),
+          (ap (λ (s : Typed). s.height) infers),
       pushed ∙ ap (λ x. olds ++ x ∷ []) (is ∙ ap (λ n. assigned_tree n s e) counted.0),
     )
 
 -- THE WHOLE
 
 -- the 1 of a step
-pub one-stands : (at : At) (scope : Scope) (j : Judged) (t : Tally) → Judges j (typed_constant at I32 (pos 1))
+pub one-stands : (at : At) (scope : Scope) (j : Inferred) (t : Tally) → Infers j (typed_constant at I32 (pos
+    1))
     → Stands j (one at scope t.calls) t t
-one-stands at scope j t judges = (judges, after-nothing t)
+one-stands at scope j t infers = (infers, after-nothing t)
 
 pub assignment-is : (at : At) (target : Target) (op : Option BinOp) (typing : Typing) (scope : Scope)
-    (w u : Work) (olds news : List StmtTree) (j : JudgedTarget) (e whole : Judged) (mid new : Tally)
+    (w u : Work) (olds news : List StmtTree) (j : InferredTarget) (e whole : Inferred) (mid new : Tally)
     → GivesTarget at target.name.at op (typed_target_of target scope w.tally.calls) w.tally mid j
     → Stands e (typing scope mid.calls) mid new
-    → ((s : Typed) → Judges e s →
-    Judges whole (changed op (typed_target_of target scope w.tally.calls).expression s))
-    → ((t : TypedTarget) (s : Typed) → JudgesTarget j t → Judges whole s
+    → ((s : Typed) → Infers e s →
+    Infers whole (changed op (typed_target_of target scope w.tally.calls).expression s))
+    → ((t : TypedTarget) (s : Typed) → InfersTarget j t → Infers whole s
     → Assigns at t s (record w { tally = new }) u olds news)
-    → at_place scope u news ≡ behind_part (add_assignment at target op typing) (at_place scope w olds)
+    → state_with scope u news ≡ behind_part (add_assignment at target op typing) (state_with scope w olds)
 assignment-is at target op typing scope w u olds news j e whole mid new targets stands changes puts =
     let place = typed_target_of target scope w.tally.calls in
     let s = typing scope (w.tally.calls + place.expression.calls) in

@@ -18,12 +18,12 @@ use Rattle.ba_trees.specs.declared.tree.statements.Statement.{Statement, out-Sta
 use Rattle.ba_trees.specs.declared.tree.statements.StatementForm.{StatementForm}
 use Rattle.ba_tree.specs.declared.tree.Stmt.{Stmt}
 use Rattle.ba_tree.specs.declared.tree.StmtKind.TheVariants as kind
-use Rattle.ba_statements.specs.Adding.{GivesTest, Numbers, State, at_place, before_of, behind_part, with_added}
+use Rattle.ba_statements.specs.Adding.{GivesTest, Numbers, State, state_with, before_of, behind_part, with_added}
 use Rattle.ba_statements.specs.Controlling.{GivesBody, GivesGuarded, GivesHead}
 use Rattle.ba_typing.specs.Declarations.{Added, ◌and◌, Before, Part, ◌then◌, add_declarators, behind, faults_added, in_order, next_stmt, nothing_added}
 use Rattle.ba_typing.specs.Expressions.{Typing, typed_constant}
 use Rattle.ba_typing.specs.Faults.{height_limit, limit_faults, tag_faults}
-use Rattle.ba_expressions.specs.Judging.{Judges, with_faults}
+use Rattle.ba_expressions.specs.Inferring.{Infers, with_faults}
 use Rattle.ba_scopes.specs.Marks.{back_to, mark_of}
 use Rattle.ba_typing.specs.Names.{Scope, inner, knowing, looping, tag_of, type_named, words_of}
 use Rattle.ba_typing.specs.Statements.{add_block, add_do, add_first, add_for, add_statement_form, add_if, add_item, add_statement, add_step, add_test, add_while, enclosing, for_scope, for_test, one, one_of}
@@ -32,7 +32,7 @@ use Rattle.ba_tree.specs.Trees as tree
 use Rattle.ba_statements.specs.declared.control.Guarded.{Guarded}
 use Rattle.ba_statements.specs.declared.control.Head.{Head}
 use Rattle.ba_statements.specs.declared.control.Test.{Test}
-use Rattle.ba_expressions.specs.declared.judged.Judged.{Judged}
+use Rattle.ba_expressions.specs.declared.inferred.Inferred.{Inferred}
 use Rattle.ba_typing.specs.declared.meanings.Entry.{Entry}
 use Rattle.ba_typing.specs.declared.names.Exits.{Exits}
 use Rattle.ba_scopes.specs.declared.scopes.Mark.{Mark}
@@ -45,7 +45,7 @@ use Rattle.ba_statements.proofs.StatementSteps.{test-is}
 
 -- WHAT WAS ADDED
 
--- what stands behind what was added
+-- what follows what was added
 pub behind-added : (w mid : Work) (a : Added) → mid ≡ with_added w a → before_of mid ≡ behind (before_of w) a
 behind-added w mid a is = ap before_of is ∙ before-added w a
 
@@ -59,7 +59,7 @@ added-assoc w a b c = sym (with_added-both w (a and b) c)
     ∙ ap (λ v. with_added v c) (sym (with_added-both w a b))
     ∙ with_added-both (with_added w a) b c ∙ with_added-both w a (b and c)
 
--- a condition behind so much
+-- a condition after so much
 abbrev TestAt : Typing → Scope → Before → Work → Work → Test → Type 0
 TestAt typing scope n old new t = let e = typing scope n.calls in
     (t.stmt ≡ next_stmt n) × (tree_of_expr t.when ≡ e.tree)
@@ -69,7 +69,7 @@ test-at : (typing : Typing) (scope : Scope) (n : Before) (old new : Work) (t : T
     → GivesTest (typing scope old.tally.calls) scope old new t → TestAt typing scope n old new t
 test-at typing scope n old new t is h = subst (λ n. TestAt typing scope n old new t) is h
 
--- a body behind so much
+-- a body after so much
 body-at : (body : Part) (scope : Scope) (n : Before) (old new : Work) (s : Stmt) → before_of old ≡ n
     → GivesBody (body scope (before_of old)) old new s → GivesBody (body scope n) old new s
 body-at body scope n old new s is h = subst (λ n. GivesBody (body scope n) old new s) is h
@@ -79,23 +79,23 @@ abbrev PartAt : Part → Scope → Before → Work → Work → List StmtTree �
 PartAt part scope n old new stmts = (new ≡ with_added old (part scope n)) × (stmts ≡ (part scope n).stmts)
 
 part-at : (part : Part) (scope k : Scope) (old new : Work) (stmts : List StmtTree)
-    → at_place k new stmts ≡ behind_part part (at_place scope old [])
+    → state_with k new stmts ≡ behind_part part (state_with scope old [])
     → PartAt part scope (before_of old) old new stmts
 unfolding behind_part
 part-at part scope k old new stmts is = (ap (λ (s : State). s.work) is, ap (λ (s : State). s.stmts) is)
 
 scope-at : (part : Part) (scope k : Scope) (old new : Work) (stmts : List StmtTree)
-    → at_place k new stmts ≡ behind_part part (at_place scope old [])
+    → state_with k new stmts ≡ behind_part part (state_with scope old [])
     → k ≡ knowing (part scope (before_of old)).entries scope
 unfolding behind_part
 scope-at part scope k old new stmts is = ap (λ (s : State). s.scope) is
 
 -- a part whose statements are the first in their list
 pub begun : (part : Part) (scope : Scope) (w : Work) (none : List Stmt) (new : State) → none ≡ []
-    → new ≡ behind_part part (at_place scope w (map tree_of_stmt none))
-    → new ≡ behind_part part (at_place scope w [])
+    → new ≡ behind_part part (state_with scope w (map tree_of_stmt none))
+    → new ≡ behind_part part (state_with scope w [])
 begun part scope w none new empty is = is
-    ∙ ap (λ xs. behind_part part (at_place scope w (map tree_of_stmt xs))) empty
+    ∙ ap (λ xs. behind_part part (state_with scope w (map tree_of_stmt xs))) empty
 
 -- SCOPES
 
@@ -115,8 +115,8 @@ back-is scope inside k left entries m functions known is marks back = back ∙ a
 
 -- the same place, by the scope that it is in
 pub at-scope : (scope k : Scope) (w : Work) (stmts : List StmtTree) (whole : State) → k ≡ scope
-    → at_place scope w stmts ≡ whole → at_place k w stmts ≡ whole
-at-scope scope k w stmts whole same is = ap (λ s. at_place s w stmts) same ∙ is
+    → state_with scope w stmts ≡ whole → state_with k w stmts ≡ whole
+at-scope scope k w stmts whole same is = ap (λ s. state_with s w stmts) same ∙ is
 
 for_scope-functions : (first : ForFirst) (scope : Scope) → (for_scope first scope).functions ≡ scope.functions
 for_scope-functions (for_first.Declaration name declarators) scope = refl
@@ -128,7 +128,7 @@ for_scope-known (for_first.Declaration name declarators) scope = refl
 for_scope-known (for_first.Simples s) scope = refl
 for_scope-known for_first.Nothing scope = refl
 
--- behind the body of a loop or of a `switch`, where other jumps were accepted
+-- after the body of a loop or of a `switch`, where other jumps were accepted
 pub exits-back : (scope around turned k : Scope) (inside before : Exits) → before ≡ scope.exits
     → around ≡ record scope { exits = inside } → turned ≡ around → k ≡ record turned { exits = before }
     → k ≡ scope
@@ -140,9 +140,9 @@ exits-back scope around turned k inside before was entered stays is =
 
 module _ (parts : List Part) (scope entered k : Scope) (w u : Work) (body : List StmtTree)
     (enters : entered ≡ inner scope)
-    (inside : at_place k u body ≡ behind_part (in_order parts) (at_place entered w [])) where
-  in_inner : at_place k u body ≡ behind_part (in_order parts) (at_place (inner scope) w [])
-  in_inner = inside ∙ ap (λ (s : Scope). behind_part (in_order parts) (at_place s w [])) enters
+    (inside : state_with k u body ≡ behind_part (in_order parts) (state_with entered w [])) where
+  in_inner : state_with k u body ≡ behind_part (in_order parts) (state_with (inner scope) w [])
+  in_inner = inside ∙ ap (λ (s : Scope). behind_part (in_order parts) (state_with s w [])) enters
 
   pub block-back : (m : Mark) (left : Scope) → m ≡ mark_of scope → left ≡ back_to m k → left ≡ scope
   block-back m left = back-is scope (inner scope) k left
@@ -150,7 +150,7 @@ module _ (parts : List Part) (scope entered k : Scope) (w u : Work) (body : List
       (scope-at (in_order parts) (inner scope) k w u body in_inner)
 
   pub block-adds : (olds news : List StmtTree) → news ≡ olds ++ tree.block (stmts_of body) ∷ []
-      → at_place scope u news ≡ behind_part (add_block parts) (at_place scope w olds)
+      → state_with scope u news ≡ behind_part (add_block parts) (state_with scope w olds)
   block-adds olds news pushed =
       let a = in_order parts (inner scope) (before_of w) in
       let made = part-at (in_order parts) (inner scope) k w u body in_inner in
@@ -161,7 +161,7 @@ module _ (parts : List Part) (scope entered k : Scope) (w u : Work) (body : List
 -- A STATEMENT THAT ANOTHER ONE CONTROLS
 
 pub body-is : (part : Part) (scope k : Scope) (w u : Work) (stmts : List StmtTree) (s : Stmt)
-    → at_place k u stmts ≡ behind_part part (at_place scope w []) → tree_of_stmt s ≡ one_of stmts
+    → state_with k u stmts ≡ behind_part part (state_with scope w []) → tree_of_stmt s ≡ one_of stmts
     → GivesBody (part scope (before_of w)) w u s
 body-is part scope k w u stmts s inside first =
     let made = part-at part scope k w u stmts inside in (first ∙ ap one_of made.1, made.0)
@@ -190,7 +190,7 @@ controls-as typed m n d e a b numbers tests bodies =
 module _ (typing : Typing) (holds : Part) (scope : Scope) (w mid : Work) (g : Guarded)
     (gives : GivesGuarded typing holds scope w mid g) (olds news : List StmtTree) where
   pub if-adds : news ≡ olds ++ tree.if_then g.test.stmt (tree_of_expr g.test.when) (tree_of_stmt g.body) ∷ []
-      → at_place scope mid news ≡ behind_part (add_if typing holds None) (at_place scope w olds)
+      → state_with scope mid news ≡ behind_part (add_if typing holds None) (state_with scope w olds)
   if-adds pushed =
       let n = before_of w in
       let e = typing scope n.calls in
@@ -207,7 +207,7 @@ module _ (typing : Typing) (holds : Part) (scope : Scope) (w mid : Work) (g : Gu
   pub if_else-adds : (fails : Part) (u : Work) (s : Stmt) → GivesBody (fails scope (before_of mid)) mid u s
       → news ≡ olds ++ tree.if_else g.test.stmt (tree_of_expr g.test.when) (tree_of_stmt g.body)
       (tree_of_stmt s) ∷ []
-      → at_place scope u news ≡ behind_part (add_if typing holds (Some fails)) (at_place scope w olds)
+      → state_with scope u news ≡ behind_part (add_if typing holds (Some fails)) (state_with scope w olds)
   if_else-adds fails u s other pushed =
       let n = before_of w in
       let e = typing scope n.calls in
@@ -232,7 +232,7 @@ module _ (typing : Typing) (body : Part) (scope : Scope) (w mid u : Work) (t : T
   pub while-adds : GivesTest (typing scope w.tally.calls) scope w mid t
       → GivesBody (body (looping scope) (before_of mid)) mid u s
       → news ≡ olds ++ tree.while_loop t.stmt (tree_of_expr t.when) (tree_of_stmt s) ∷ []
-      → at_place scope u news ≡ behind_part (add_while typing body) (at_place scope w olds)
+      → state_with scope u news ≡ behind_part (add_while typing body) (state_with scope w olds)
   while-adds tested held pushed =
       let n = before_of w in
       let e = typing scope n.calls in
@@ -248,7 +248,7 @@ module _ (typing : Typing) (body : Part) (scope : Scope) (w mid u : Work) (t : T
   pub do-adds : GivesBody (body (looping scope) (before_of w)) w mid s
       → GivesTest (typing scope mid.tally.calls) scope mid u t
       → news ≡ olds ++ tree.do_while t.stmt (tree_of_expr t.when) (tree_of_stmt s) ∷ []
-      → at_place scope u news ≡ behind_part (add_do typing body) (at_place scope w olds)
+      → state_with scope u news ≡ behind_part (add_do typing body) (state_with scope w olds)
   do-adds held tested pushed =
       let n = before_of w in
       let a = body (looping scope) n in
@@ -264,13 +264,13 @@ module _ (typing : Typing) (body : Part) (scope : Scope) (w mid u : Work) (t : T
 -- THE HEAD OF A `for`
 
 -- an absent condition
-pub absent-is : (at : At) (scope : Scope) (w u : Work) (j : Judged) (new : Tally) (stmt : StmtId)
-    → Judges j (typed_constant at I32 (pos 1))
+pub absent-is : (at : At) (scope : Scope) (w u : Work) (j : Inferred) (new : Tally) (stmt : StmtId)
+    → Infers j (typed_constant at I32 (pos 1))
     → new ≡ with_faults w.tally (limit_faults height_limit j.height j.first)
     → Numbers j.first kind.Condition stmt (record w { tally = new }) u
     → GivesTest (one at scope w.tally.calls) scope w u (record { stmt = stmt; when = j.expr })
-absent-is at scope w u j new stmt judges more counted =
-    test-is (typed_constant at I32 (pos 1)) scope w u j w.tally new stmt (judges, after-nothing w.tally) more
+absent-is at scope w u j new stmt infers more counted =
+    test-is (typed_constant at I32 (pos 1)) scope w u j w.tally new stmt (infers, after-nothing w.tally) more
     counted
 
 module _ (f : ForFirst) (scope : Scope) (w : Work) (stmts : List StmtTree) (new : State) where
@@ -280,36 +280,37 @@ module _ (f : ForFirst) (scope : Scope) (w : Work) (stmts : List StmtTree) (new 
       → tag ≡ tag_of (words_of name) → inside ≡ inner scope
       → mid ≡ with_faults w.tally (tag_faults inside tag)
       → new ≡ behind_part (add_declarators functions t declarators)
-      (at_place inside (record w { tally = mid }) stmts)
-      → new ≡ behind_part (add_first f) (at_place (for_scope f scope) w stmts)
+      (state_with inside (record w { tally = mid }) stmts)
+      → new ≡ behind_part (add_first f) (state_with (for_scope f scope) w stmts)
   first-declares name declarators functions t tag inside mid is none types tags enters counted adds =
       let looks : Part = λ scope n. faults_added (tag_faults scope (tag_of (words_of name))) in
       let rest = add_declarators [] (type_named name) declarators in
       let v = record w { tally = mid } in
-      and-then looks rest (at_place inside w stmts) (at_place inside v stmts) new
+      and-then looks rest (state_with inside w stmts) (state_with inside v stmts) new
       (in-scope looks (faults_added (tag_faults inside (tag_of (words_of name)))) inside w v stmts stmts
       refl refl
       (ap (λ t. record w { tally = t }) (counted ∙ ap (λ tag. with_faults w.tally (tag_faults inside tag))
       tags)
       ∙ faults-work w (tag_faults inside (tag_of (words_of name)))) (sym (append-nil stmts)))
       (adds ∙ ap (λ (fs : List Signature). behind_part (add_declarators fs t declarators)
-      (at_place inside v stmts)) none
-      ∙ ap (λ (t : Option CType). behind_part (add_declarators [] t declarators) (at_place inside v stmts))
+      (state_with inside v stmts)) none
+      ∙ ap (λ (t : Option CType). behind_part (add_declarators [] t declarators) (state_with inside v stmts))
       types)
-      ∙ ap (λ (k : Scope). behind_part (looks then rest) (at_place k w stmts)) enters
-      ∙ ap (λ (f : ForFirst). behind_part (add_first f) (at_place (for_scope f scope) w stmts)) (sym is)
+      ∙ ap (λ (k : Scope). behind_part (looks then rest) (state_with k w stmts)) enters
+      ∙ ap (λ (f : ForFirst). behind_part (add_first f) (state_with (for_scope f scope) w stmts)) (sym is)
 
   pub first-as : (g : ForFirst) → f ≡ g
-      → new ≡ behind_part (add_first g) (at_place (for_scope g scope) w stmts)
-      → new ≡ behind_part (add_first f) (at_place (for_scope f scope) w stmts)
+      → new ≡ behind_part (add_first g) (state_with (for_scope g scope) w stmts)
+      → new ≡ behind_part (add_first f) (state_with (for_scope f scope) w stmts)
   first-as g is adds = adds
-      ∙ ap (λ (f : ForFirst). behind_part (add_first f) (at_place (for_scope f scope) w stmts)) (sym is)
+      ∙ ap (λ (f : ForFirst). behind_part (add_first f) (state_with (for_scope f scope) w stmts)) (sym is)
 
 module _ (head : ForHead) (outside k : Scope) (w w1 w2 w3 : Work) (h : Head) where
-  pub head-is : at_place k w1 (map tree_of_stmt h.first.items)
-      ≡ behind_part (add_first head.first) (at_place (for_scope head.first outside) w [])
+  pub head-is : state_with k w1 (map tree_of_stmt h.first.items)
+      ≡ behind_part (add_first head.first) (state_with (for_scope head.first outside) w [])
       → GivesTest (for_test head k w1.tally.calls) k w1 w2 h.test
-      → at_place k w3 (map tree_of_stmt h.step.items) ≡ behind_part (add_step head.step) (at_place k w2 [])
+      → state_with k w3 (map tree_of_stmt h.step.items) ≡ behind_part (add_step head.step) (state_with k w2
+      [])
       → GivesHead head outside k w w3 h
   head-is before tested behind_turn =
       let scope = for_scope head.first outside in
@@ -351,7 +352,7 @@ module _ (head : ForHead) (outside inside : Scope) (w mid : Work) (h : Head)
       → GivesBody (body (looping inside) (before_of mid)) mid u s
       → news ≡ olds ++ tree.for_loop h.test.stmt (stmts_of (map tree_of_stmt h.first.items))
       (tree_of_expr h.test.when) (stmts_of (map tree_of_stmt h.step.items)) (tree_of_stmt s) ∷ []
-      → at_place outside u news ≡ behind_part (add_for head body) (at_place outside w olds)
+      → state_with outside u news ≡ behind_part (add_for head body) (state_with outside w olds)
   for-adds body u s olds news held pushed =
       let n = before_of w in
       let f = first_added in

@@ -21,18 +21,18 @@ use Rattle.ba_trees.specs.declared.tree.expressions.Conditional.{Conditional}
 use Rattle.ba_tree.specs.declared.tree.Expr.{Expr}
 use Rattle.ba_tree.specs.declared.tree.Shape.{Shape}
 use Rattle.ba_tree.specs.declared.tree.StmtKind.TheVariants as kind
-use Rattle.ba_statements.specs.Adding.{AddsLength, IsLength, Keeping, Kept, Numbers, State, at_place, before_of, behind_part, initialising, keep_each, keep_one, plain_length, with_added, with_count}
+use Rattle.ba_statements.specs.Adding.{AddsLength, IsLength, Keeping, Kept, Numbers, State, state_with, before_of, behind_part, initialising, keep_each, keep_one, plain_length, with_added, with_count}
 use Rattle.ba_typing.specs.Declarations.{Part, ◌then◌, TypedLength, add_declaration, add_declarator, add_declare, add_initialiser, add_length, add_optional_declarators, add_optional_initialiser, add_specifiers, add_variable, braced_values, calls_in, count_of_values, exceeds, faults_added, has_braces, init_tree, initial_faults, length_faults, length_in_range, written_count, next_stmt, nothing_added, typed_array_length, typed_each, typed_length, shape_of, values_of, whole_faults, written_length}
 use Rattle.ba_typing.specs.Expressions.{Typed, Typing, typed_conditional, tree_as}
 use Rattle.ba_typing.specs.Faults.{fault, fault_if, limit_faults, element_limit, void_faults}
-use Rattle.ba_expressions.specs.Judging.{Judges, after, with_faults}
+use Rattle.ba_expressions.specs.Inferring.{Infers, after, with_faults}
 use Rattle.ba_typing.specs.Names.{Scope, name_of, type_specified}
 use Rattle.ba_tree.specs.Trees.{StmtTree, tree_of_expr}
 use Rattle.ba_tree.specs.Trees as tree
 use Rattle.ba_statements.specs.declared.declarations.Length.{Length}
 use Rattle.ba_typing.specs.declared.fault.Cause.TheVariants.{BadLength, WrongCount, WrongKind}
 use Rattle.ba_typing.specs.declared.fault.Fault.{Fault}
-use Rattle.ba_expressions.specs.declared.judged.Judged.{Judged}
+use Rattle.ba_expressions.specs.declared.inferred.Inferred.{Inferred}
 use Rattle.ba_typing.specs.declared.meanings.Signature.{Signature}
 use Rattle.ba_expressions.specs.declared.tally.Tally.{Tally}
 use Rattle.ba_statements.specs.declared.work.Work.{Work}
@@ -112,7 +112,7 @@ some-length at scope w mid u (Some s) t l k is some work counted =
 
 pub length-part : (at : At) (s : Option TypedLength) (scope : Scope) (w u : Work) (stmts : List StmtTree)
     → u ≡ with_added w (add_length at s scope (before_of w))
-    → at_place scope u stmts ≡ behind_part (add_length at s) (at_place scope w stmts)
+    → state_with scope u stmts ≡ behind_part (add_length at s) (state_with scope w stmts)
 length-part at None scope w u stmts is =
     in-scope (add_length at None) nothing_added scope w u stmts stmts refl refl is (sym (append-nil stmts))
 length-part at (Some s) scope w u stmts is =
@@ -184,7 +184,7 @@ module _ (functions : List Signature) (t : Option CType) (d : Declarator) (s0 s1
 -- the declaration of a local variable
 pub declare-is : (v : VarId) (scope : Scope) (w : Work) (old new : List StmtTree)
     → new ≡ old ++ cond (scope.depth == 0) [] (tree.declare v ∷ [])
-    → at_place scope w new ≡ behind_part (add_declare v) (at_place scope w old)
+    → state_with scope w new ≡ behind_part (add_declare v) (state_with scope w old)
 declare-is v scope w old new is = adds-is (add_declare v) (add_declare v scope (before_of w)) scope scope w
     w old new
     refl (knowing-nothing scope) (with_added-nothing w) is
@@ -199,14 +199,14 @@ module _ (at : At) (v : VarId) (t : CType) (l : Option TypedLength) (init : Opti
   some-is s u i is added = added ∙ ap (λ i. behind_part (add_optional_initialiser at v t l i) s) (sym is)
 
 -- a value of an initialiser
-pub value-is : (at : At) (t : CType) (is_global : Bool) (s : Typed) (j : Judged) (old mid new : Tally) (e :
+pub value-is : (at : At) (t : CType) (is_global : Bool) (s : Typed) (j : Inferred) (old mid new : Tally) (e :
     Expr)
-    (olds news : List Expr) → Judges j s → mid ≡ after old s.calls (whole_faults at s)
+    (olds news : List Expr) → Infers j s → mid ≡ after old s.calls (whole_faults at s)
     → new ≡ with_faults mid (fault_if (is_global && not j.is_constant) WrongKind at)
     → tree_of_expr e ≡ tree_as t s → news ≡ olds ++ e ∷ []
     → record { trees = map tree_of_expr news; tally = new }
     ≡ keep_one (initialising at t is_global) s (record { trees = map tree_of_expr olds; tally = old })
-value-is at t is_global s j old mid new e olds news judges counted more tree pushed =
+value-is at t is_global s j old mid new e olds news infers counted more tree pushed =
     let fs = whole_faults at s in
     ap (λ xs. record { trees = xs; tally = new }) (ap (map tree_of_expr) pushed ∙ map-append tree_of_expr
     olds (e ∷ [])
@@ -216,7 +216,7 @@ value-is at t is_global s j old mid new e olds news judges counted more tree pus
     ∙ ap (λ l. record { calls = old.calls + s.calls; least = l })
     (least-append old.least fs (fault_if (is_global && not j.is_constant) WrongKind at))
     ∙ ap (λ b. after old s.calls (fs ++ fault_if (is_global && not b) WrongKind at)) (ap (λ (e : Typed).
-    e.is_constant) judges))
+    e.is_constant) infers))
 
 -- THE LENGTH OF AN ARRAY
 
@@ -292,7 +292,7 @@ module _ (at : At) (v : VarId) (t : CType) (l : Option TypedLength) (init : Init
       → three ≡ with_faults two kind_faults
       → Numbers at kind.Initialiser stmt (record w { tally = three }) u
       → typed ≡ init_tree stmt v t (is_some l) es → news ≡ olds ++ typed ∷ []
-      → at_place scope u news ≡ behind_part (add_initialiser at v t l init) (at_place scope w olds)
+      → state_with scope u news ≡ behind_part (add_initialiser at v t l init) (state_with scope w olds)
   initialiser-is one two three stmt typed olds news a b c counted tree pushed =
       numbered-is (add_initialiser at v t l init) scope w (record w { tally = three }) u olds news at
       kind.Initialiser

@@ -15,11 +15,11 @@ use Rattle.ba_statements.specs.Adding.{Keeping, Kept, first_of, keep_each, keep_
 use Rattle.ba_typing.specs.Declarations.{calls_in, first_tree, init_tree, typed_each, whole_faults}
 use Rattle.ba_typing.specs.Expressions.{Typed, Typing, typed_conditional, typed_next, tree_as}
 use Rattle.ba_typing.specs.Faults.{limit_faults, height_limit}
-use Rattle.ba_expressions.specs.Judging.{Stands, after, with_faults}
+use Rattle.ba_expressions.specs.Inferring.{Stands, after, with_faults}
 use Rattle.ba_typing.specs.Names.{Scope}
 use Rattle.ba_tree.specs.Trees.{ExprTree, tree_of_expr, tree_of_stmt}
 use Rattle.ba_tree.specs.Trees as tree
-use Rattle.ba_expressions.specs.declared.judged.Judged.{Judged}
+use Rattle.ba_expressions.specs.declared.inferred.Inferred.{Inferred}
 use Rattle.ba_expressions.specs.declared.tally.Tally.{Tally}
 use Rattle.ba_statements.proofs.Adding.{after-after, after-nothing}
 use Rattle.ba_expressions.proofs.ParsedForms.{next-is}
@@ -27,7 +27,7 @@ use Rattle.ba_typing.proofs.StmtForms.{tree-Init, tree-InitArray}
 use Rattle.ba_expressions.proofs.Tallies.{faults-before}
 use Rattle.ba_typing.proofs.Walks.{next_item, none_left}
 
-pub whole-is : (at : At) (j : Judged) (s : Typed) (old mid new : Tally) → Stands j s old mid
+pub whole-is : (at : At) (j : Inferred) (s : Typed) (old mid new : Tally) → Stands j s old mid
     → new ≡ with_faults mid (limit_faults height_limit j.height at) → new ≡ after old s.calls (whole_faults
     at s)
 whole-is at j s old mid new stands more =

@@ -11,19 +11,19 @@ use Rattle.ba_trees.specs.declared.tree.statements.Label.TheVariants as label
 use Rattle.ba_tree.specs.declared.tree.Expr.{Expr}
 use Rattle.ba_tree.specs.declared.tree.Stmt.{Stmt}
 use Rattle.ba_tree.specs.declared.tree.StmtKind.TheVariants as kind
-use Rattle.ba_statements.specs.Adding.{Numbers, State, at_place, before_of, behind_part, extended, with_added, with_judged, with_number}
+use Rattle.ba_statements.specs.Adding.{Numbers, State, state_with, before_of, behind_part, extended, with_added, with_inferred, with_number}
 use Rattle.ba_statements.specs.Labelling.{AddsLabel, GivesControlling, SwitchState, behind_group, behind_groups, behind_labelled}
 use Rattle.ba_typing.specs.Declarations.{Added, ◌and◌, Before, behind, in_order, next_stmt, whole_faults}
 use Rattle.ba_typing.specs.Expressions.{Typed, Typing, constant_value, tree_as}
 use Rattle.ba_typing.specs.Faults.{fault_if, height_limit, limit_faults}
-use Rattle.ba_expressions.specs.Judging.{Judges, Stands, after, least_with, with_faults}
+use Rattle.ba_expressions.specs.Inferring.{Infers, Stands, after, least_with, with_faults}
 use Rattle.ba_typing.specs.Names.{Scope, knowing, switching}
 use Rattle.ba_typing.specs.Statements.{GroupParts, add_case, add_controlling, add_default, add_group, add_groups, add_label, add_switch, enclosing, label_faults, no_labels, with_start}
 use Rattle.ba_tree.specs.Trees.{StmtTree, stmts_of, tree_of_expr, tree_of_stmt}
 use Rattle.ba_tree.specs.Trees as tree
 use Rattle.ba_typing.specs.declared.fault.Cause.TheVariants.{Twice}
 use Rattle.ba_typing.specs.declared.meanings.Labels.{Labels}
-use Rattle.ba_expressions.specs.declared.judged.Judged.{Judged}
+use Rattle.ba_expressions.specs.declared.inferred.Inferred.{Inferred}
 use Rattle.ba_expressions.specs.declared.tally.Tally.{Tally}
 use Rattle.ba_statements.specs.declared.labels.Controlling.{Controlling}
 use Rattle.ba_statements.specs.declared.work.Work.{Work}
@@ -35,7 +35,7 @@ use Rattle.ba_typing.proofs.Walks.{next_item, none_left}
 
 -- THE CONTROLLING EXPRESSION
 
-pub controlling-is : (s : Typed) (scope : Scope) (w u : Work) (j : Judged) (mid new : Tally) (stmt : StmtId)
+pub controlling-is : (s : Typed) (scope : Scope) (w u : Work) (j : Inferred) (mid new : Tally) (stmt : StmtId)
     (t : CType) (on : Expr)
     → Stands j s w.tally mid → new ≡ with_faults mid (limit_faults height_limit j.height j.first)
     → Numbers j.first kind.Switch stmt (record w { tally = new }) u
@@ -50,7 +50,7 @@ controlling-is s scope w u j mid new stmt t on stands more counted promotes type
       typed ∙ ap (λ t. tree_as t s) type,
       counted.1 ∙ ap (λ t. with_number (record w { tally = t }) j.first kind.Switch)
           (whole-is j.first j s w.tally mid new stands more)
-          ∙ ap (λ at. with_number (with_judged w s.calls (whole_faults at s)) at kind.Switch) at
+          ∙ ap (λ at. with_number (with_inferred w s.calls (whole_faults at s)) at kind.Switch) at
           ∙ numbered-work w s.first kind.Switch tree.break_loop s.calls (whole_faults s.first s),
     )
 
@@ -60,17 +60,17 @@ pub both-ok : {A E : Type 0} (P Q : Type 0) (r : Result A E) → OnOk r P → On
 both-ok P Q (Ok x) p q = (p, q)
 both-ok P Q (Err e) p q = tt
 
-pub case-is : (t : CType) (at : At) (s : Typed) (j : Judged) (old mid new : Tally) (value : Option ℤ)
+pub case-is : (t : CType) (at : At) (s : Typed) (j : Inferred) (old mid new : Tally) (value : Option ℤ)
     (count : ℕ) (begun labels : Labels)
-    → Judges j s → mid ≡ after old s.calls (whole_faults at s) → value ≡ constant_value t s
+    → Infers j s → mid ≡ after old s.calls (whole_faults at s) → value ≡ constant_value t s
     → labels ≡ with_start begun value count → new ≡ with_faults mid (label_faults begun value j.first)
     → AddsLabel (add_case t at s begun count) old new labels
-case-is t at s j old mid new value count begun labels judges counts is starts more = (
+case-is t at s j old mid new value count begun labels infers counts is starts more = (
   starts ∙ ap (λ z. with_start begun z count) is,
   faults-behind old mid new s.calls (whole_faults at s) (label_faults begun (constant_value t s) s.first)
       counts
       (more ∙ ap (λ z. with_faults mid (label_faults begun z j.first)) is
-      ∙ ap (λ (e : Typed). with_faults mid (label_faults begun (constant_value t s) e.first)) judges),
+      ∙ ap (λ (e : Typed). with_faults mid (label_faults begun (constant_value t s) e.first)) infers),
 )
 
 pub default-is : (at : At) (count : ℕ) (begun labels : Labels) (old new : Tally) (b : Bool)
@@ -90,14 +90,14 @@ label-counts : (t : CType) (at : At) (l : Label) (labels : Labels) (count : ℕ)
 label-counts t at (label.Case keyword value colon) labels count scope calls = refl
 label-counts t at (label.Default keyword colon) labels count scope calls = refl
 
--- behind calls and faults the statements and the scope are as they were
+-- after calls and faults the statements and the scope are as they were
 counted-added : (a : Added) (w mid : Work) → a ≡ counted a.calls a.faults
-    → mid ≡ with_judged w a.calls a.faults → mid ≡ with_added w a
+    → mid ≡ with_inferred w a.calls a.faults → mid ≡ with_added w a
 counted-added a w mid only is = is ∙ counted-work w a.calls a.faults ∙ ap (with_added w) (sym only)
 
 counted-state : (a : Added) (scope : Scope) (w mid : Work) (stmts : List StmtTree)
     → a ≡ counted a.calls a.faults → mid ≡ with_added w a
-    → at_place scope mid stmts ≡ extended (at_place scope w stmts) a
+    → state_with scope mid stmts ≡ extended (state_with scope w stmts) a
 unfolding behind_part
 counted-state a scope w mid stmts only is = in-scope (λ k n. a) a scope w mid stmts stmts refl
     (ap (λ (a : Added). a.entries) only) is
@@ -112,10 +112,10 @@ at_labels labels body = record { labels = labels; body = body }
 pub group-adds : (t : CType) (at : At) (g : GroupParts) (labels behind_label : Labels) (count : ℕ)
     (scope k : Scope) (w u : Work) (mid : Tally) (olds news : List StmtTree) → count ≡ length olds
     → AddsLabel (add_label t at g.label labels count scope w.tally.calls) w.tally mid behind_label
-    → at_place k u news
-    ≡ behind_part (in_order g.statements) (at_place scope (record w { tally = mid }) olds)
-    → at_labels behind_label (at_place k u news)
-    ≡ behind_group t at g (at_labels labels (at_place scope w olds))
+    → state_with k u news
+    ≡ behind_part (in_order g.statements) (state_with scope (record w { tally = mid }) olds)
+    → at_labels behind_label (state_with k u news)
+    ≡ behind_group t at g (at_labels labels (state_with scope w olds))
 unfolding behind_part behind_group
 group-adds t at g labels behind_label count scope k w u mid olds news counts adds inside =
     let v : Work = record w { tally = mid } in
@@ -129,11 +129,11 @@ group-adds t at g labels behind_label count scope k w u mid olds news counts add
     let worked : v ≡ with_added w l.added =
     counted-added l.added w v only (ap (λ (t : Tally). record w { tally = t }) label.1) in
     ap (at_labels behind_label)
-    (inside ∙ ap (λ n. extended (at_place scope v olds) (in_order g.statements scope n))
+    (inside ∙ ap (λ n. extended (state_with scope v olds) (in_order g.statements scope n))
     (behind-added w v l.added worked)
     ∙ ap (λ s. extended s b) (counted-state l.added scope w v olds only worked)
-    ∙ extended-both (at_place scope w olds) l.added b)
-    ∙ ap (λ ls. at_labels ls (extended (at_place scope w olds) (l.added and b))) label.0
+    ∙ extended-both (state_with scope w olds) l.added b)
+    ∙ ap (λ ls. at_labels ls (extended (state_with scope w olds) (l.added and b))) label.0
 
 -- one group, and then others
 behind-more : (t : CType) (at : At) (g : GroupParts) (gs : List GroupParts) (s : SwitchState)
@@ -173,22 +173,22 @@ module _ {A : Type 0} (parts : A → GroupParts) (t : CType) (at : At) (xs : Lis
 -- before the first group
 pub groups-begun : (t : CType) (at : At) (gs : List GroupParts) (labels : Labels) (scope k : Scope)
     (w : Work) (none : List Stmt) (new : SwitchState) → labels ≡ no_labels → scope ≡ k → none ≡ []
-    → new ≡ behind_groups t at gs (at_labels labels (at_place scope w (map tree_of_stmt none)))
-    → new ≡ behind_groups t at gs (at_labels no_labels (at_place k w []))
+    → new ≡ behind_groups t at gs (at_labels labels (state_with scope w (map tree_of_stmt none)))
+    → new ≡ behind_groups t at gs (at_labels no_labels (state_with k w []))
 groups-begun t at gs labels scope k w none new unlabelled enters empty is = is
-    ∙ ap (λ ls. behind_groups t at gs (at_labels ls (at_place scope w (map tree_of_stmt none)))) unlabelled
-    ∙ ap (λ k. behind_groups t at gs (at_labels no_labels (at_place k w (map tree_of_stmt none)))) enters
-    ∙ ap (λ xs. behind_groups t at gs (at_labels no_labels (at_place k w (map tree_of_stmt xs)))) empty
+    ∙ ap (λ ls. behind_groups t at gs (at_labels ls (state_with scope w (map tree_of_stmt none)))) unlabelled
+    ∙ ap (λ k. behind_groups t at gs (at_labels no_labels (state_with k w (map tree_of_stmt none)))) enters
+    ∙ ap (λ xs. behind_groups t at gs (at_labels no_labels (state_with k w (map tree_of_stmt xs)))) empty
 
 -- THE WHOLE
 
 pub switch-adds : (typing : Typing) (gs : List GroupParts) (scope k : Scope) (w mid u : Work)
     (c : Controlling) (labels : Labels) (body olds news : List StmtTree)
     → GivesControlling (typing scope w.tally.calls) scope w mid c
-    → at_labels labels (at_place k u body)
-    ≡ behind_groups c.t c.at gs (at_labels no_labels (at_place (switching scope) mid []))
+    → at_labels labels (state_with k u body)
+    ≡ behind_groups c.t c.at gs (at_labels no_labels (state_with (switching scope) mid []))
     → news ≡ olds ++ tree.switch c.stmt c.t (tree_of_expr c.on) labels.starts labels.other (stmts_of body)
-    ∷ [] → at_place scope u news ≡ behind_part (add_switch typing gs) (at_place scope w olds)
+    ∷ [] → state_with scope u news ≡ behind_part (add_switch typing gs) (state_with scope w olds)
 unfolding behind_groups
 switch-adds typing gs scope k w mid u c labels body olds news gives inside pushed =
     let n = before_of w in
@@ -196,8 +196,8 @@ switch-adds typing gs scope k w mid u c labels body olds news gives inside pushe
     let t = promoted e.t in
     let on = add_controlling e.first e scope n in
     let b = add_groups t e.first gs no_labels 0 (switching scope) (behind n on) in
-    let s = at_labels no_labels (at_place (switching scope) mid []) in
-    let held : at_labels labels (at_place k u body) ≡ behind_labelled b s =
+    let s = at_labels no_labels (state_with (switching scope) mid []) in
+    let held : at_labels labels (state_with k u body) ≡ behind_labelled b s =
     inside ∙ ap (λ t. behind_groups t c.at gs s) gives.2 ∙ ap (λ at. behind_groups t at gs s) gives.1
     ∙ ap (λ n. behind_labelled (add_groups t e.first gs no_labels 0 (switching scope) n) s)
     (behind-added w mid on gives.4) in

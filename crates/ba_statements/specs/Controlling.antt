@@ -1,5 +1,4 @@
--- Statements that hold others: how what the code makes of their parts stands to what the definitions say that
--- these add.
+-- Statements that hold others: how what the code makes of their parts relates to the definitions.
 
 use Rattle.std.specs.Prelude.{◌≡◌, map}
 use Rattle.ba_trees.specs.declared.tree.statements.ForHead.{ForHead}
@@ -28,7 +27,7 @@ GivesGuarded test holds scope old new g =
     (g.test.stmt ≡ next_stmt n) × (tree_of_expr g.test.when ≡ w.tree) × (tree_of_stmt g.body ≡ one_of a.stmts)
     × (new ≡ with_added old (c and a))
 
--- THE HEAD OF A `for`: the scope behind it, its statements, its condition and its steps, and what they add
+-- THE HEAD OF A `for`: the scope after it, its statements, its condition and its steps, and what they add
 abbrev pub GivesHead : ForHead → Scope → Scope → Work → Work → Head → Type 0
 GivesHead head outside inside old new h =
     let scope = for_scope head.first outside in

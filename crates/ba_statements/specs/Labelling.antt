@@ -1,4 +1,4 @@
--- The labels of a `switch`: how what the code makes of them stands to what the definitions say that these add.
+-- The labels of a `switch`: how what the code makes of them relates to the definitions.
 
 use Rattle.std.specs.Prelude.{◌≡◌, List, length}
 use Rattle.std.specs.Global.{Vec}
@@ -13,7 +13,7 @@ use Rattle.ba_typing.specs.Expressions.{Typed, tree_as}
 use Rattle.ba_typing.specs.Names.{Scope}
 use Rattle.ba_typing.specs.Statements.{GroupParts, Labelled, add_controlling, add_group, add_groups}
 use Rattle.ba_typing.specs.declared.meanings.Labels.{Labels}
-use Rattle.ba_expressions.specs.Judging.{after}
+use Rattle.ba_expressions.specs.Inferring.{after}
 use Rattle.ba_expressions.specs.declared.tally.Tally.{Tally}
 use Rattle.ba_statements.specs.declared.labels.Controlling.{Controlling}
 use Rattle.ba_statements.specs.declared.work.Work.{Work}
@@ -34,16 +34,20 @@ pub record SwitchState : Type 0 where
   pub labels : Labels
   pub body : State
 
+-- the state in the body of a `switch`
 abbrev pub switch_state : Labels → Scope → Work → Vec Stmt → SwitchState
 switch_state labels scope work body = record { labels = labels; body = state scope work body }
 
+-- the state after a label or group that adds this
 abbrev pub behind_labelled : Labelled → SwitchState → SwitchState
 behind_labelled l s = record { labels = l.labels; body = extended s.body l.added }
 
+-- the state after a label with its statements
 unfoldable pub behind_group : CType → At → GroupParts → SwitchState → SwitchState
 behind_group t at g s = behind_labelled
     (add_group t at g s.labels (length s.body.stmts) s.body.scope (before_of s.body.work)) s
 
+-- the state after the groups of a `switch`
 unfoldable pub behind_groups : CType → At → List GroupParts → SwitchState → SwitchState
 behind_groups t at gs s = behind_labelled
     (add_groups t at gs s.labels (length s.body.stmts) s.body.scope (before_of s.body.work)) s

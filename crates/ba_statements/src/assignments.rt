@@ -1,10 +1,10 @@
 //! Assignments, steps and calls as statements (C90 6.3.16, 6.3.2.4, 6.3.3.1, 6.3.2.2).
 
 ghost use Rattle.std.specs.Prelude.{◌≡◌, ◌&&◌, ◌++◌, None, Some, is_some, map, nat_lt, IfOk, OnOk};
-ghost use Rattle.ba_statements.specs.Adding.{Assigns, GivesTarget, JudgesTarget, behind_part, typed_target_of, state};
+ghost use Rattle.ba_statements.specs.Adding.{Assigns, GivesTarget, InfersTarget, behind_part, typed_target_of, state};
 ghost use Rattle.ba_typing.specs.Expressions.{Typed, typed_arguments, typed_conditional, tree_as};
 ghost use Rattle.ba_typing.specs.Faults.{fault_if, height_limit, limit_faults};
-ghost use Rattle.ba_expressions.specs.Judging.{Judges, with_faults};
+ghost use Rattle.ba_expressions.specs.Inferring.{Infers, with_faults};
 ghost use Rattle.ba_typing.specs.Names.{name_of};
 ghost use Rattle.ba_typing.specs.Statements.{TypedTarget, add_assignment, add_call, add_simple, add_simples, assigned_tree, changed, kind_of_target, one, operator_at, typed_target, var_of};
 ghost use Rattle.ba_tree.specs.Trees.{tree_of_expr, tree_of_stmt};
@@ -12,8 +12,8 @@ ghost use Rattle.ba_typing.specs.declared.fault.Cause.TheVariants.{CallInIndex};
 
 use crate::work::{Work, put};
 use ba_expressions::expressions::{call, conditional};
-use ba_expressions::judged;
-use ba_expressions::judged::{Judged, array_of, element_type, variable_type};
+use ba_expressions::inferred;
+use ba_expressions::inferred::{Inferred, array_of, element_type, variable_type};
 use ba_expressions::tally::{HEIGHT_LIMIT, Tally};
 use ba_expressions::uses::{add_array_name_faults, add_target_name_faults, add_value_name_faults};
 use ba_numbers::ids::{At, StmtId, VarId};
@@ -29,23 +29,23 @@ use ba_typing::meanings::Meaning;
 use ba_typing::names::{changing_operator, name_of, punct_of};
 use std::alloc::{AllocError, Global};
 
-/// What is found out about what is assigned to: which variable or array it is; the type of its value; and the typed tree of its index,
-/// `None` for a variable.
+/// What is inferred of an assignment's target: the variable or array, its value's type, and the typed tree of
+/// its index (`None` for a variable).
 #[derive(Drop)]
-pub struct JudgedTarget {
+pub struct InferredTarget {
     pub var: VarId,
     pub t: CType,
     pub index: Option<Expr>,
 }
 
-/// The operator that an assignment or a step applies to what is assigned to, `None` for `=`.
+/// The operator that an assignment or a step applies to its target, `None` for `=`.
 fn operator_at(token: &Token) -> Option<BinOp>
     ensures { result ≡ operator_at token.now }
 {
     changing_operator(punct_of(token))
 }
 
-/// The variable of a name of this meaning; where the name is at fault, anything.
+/// The variable of a name of this meaning; any variable if the name is at fault.
 fn var_of(meaning: &Meaning) -> VarId
     ensures { result ≡ var_of meaning.now }
 {
@@ -55,8 +55,8 @@ fn var_of(meaning: &Meaning) -> VarId
     }
 }
 
-/// A variable as what is assigned to.
-fn variable_target<'a>(scope: &Scope<'a>, name: &'a Token, tally: &mut Tally) -> JudgedTarget
+/// A variable as the target of an assignment.
+fn variable_target<'a>(scope: &Scope<'a>, name: &'a Token, tally: &mut Tally) -> InferredTarget
     ensures { GivesTarget name.now.at name.now.at None
         (typed_target name.now.at (name_of name.now) None scope.now tally.old.calls)
         tally.old tally.new result }
@@ -64,21 +64,23 @@ fn variable_target<'a>(scope: &Scope<'a>, name: &'a Token, tally: &mut Tally) ->
     let meaning = scope.meaning_of(&name_of(name));
     add_target_name_faults(&meaning, name.at, tally);
     add_value_name_faults(&meaning, name.at, tally);
-    JudgedTarget {
+    InferredTarget {
         var: var_of(&meaning),
         t: variable_type(&meaning),
         index: None,
     }
 }
 
-/// Whether an operator changes an element in whose index is a call: so many calls stand before the index, and so many behind it.
+/// Whether an operator changes an element whose index has a call. `before` calls come before the index, and
+/// `behind` up to its end.
 fn is_changed_by_call(op: Option<BinOp>, before: u32, behind: u32) -> bool
     ensures { result ≡ (is_some op && nat_lt before behind) }
 {
     op.is_some() && before < behind
 }
 
-/// The faults of an index of this height, in a statement that begins at this position, for the array whose name stands at that one.
+/// Adds the faults of an index of this height. `at` is the position of the statement, `name_at` that of the
+/// array's name.
 fn add_index_faults(at: At, name_at: At, has_call: bool, height: u32, tally: &mut Tally)
     ensures { tally.new ≡ with_faults tally.old
         (limit_faults height_limit height at ++ fault_if has_call CallInIndex name_at) }
@@ -87,9 +89,9 @@ fn add_index_faults(at: At, name_at: At, has_call: bool, height: u32, tally: &mu
     tally.add_if(has_call, Cause::CallInIndex, name_at);
 }
 
-/// An element as what is assigned to, in a statement that begins at this position.
+/// An element as the target of an assignment. `at` is the position of the statement.
 ///
-/// The one error is want of memory, which also stands for want of numbers for calls and heights.
+/// The only error is out of memory, also if the numbers for calls or heights run out.
 fn element_target<'a>(
     alloc: Global,
     scope: &Scope<'a>,
@@ -98,7 +100,7 @@ fn element_target<'a>(
     name: &'a Token,
     index: &'a Conditional,
     tally: &mut Tally,
-) -> Result<JudgedTarget, AllocError>
+) -> Result<InferredTarget, AllocError>
     ensures { IfOk result (λ j. GivesTarget at name.now.at op
         (typed_target name.now.at (name_of name.now) (Some (typed_conditional index.now)) scope.now
         tally.old.calls) tally.old tally.new j) }
@@ -111,16 +113,16 @@ fn element_target<'a>(
     add_index_faults(at, name.at, has_call, j.height, tally);
     let t = promoted(j.t);
     let index = j.into_tree(alloc, t)?;
-    Ok(JudgedTarget {
+    Ok(InferredTarget {
         var: array_of(&meaning),
         t: element_type(&meaning),
         index: Some(index),
     })
 }
 
-/// What is assigned to in a statement that begins at this position, by this operator, `None` for `=`.
+/// The target of an assignment with this operator, `None` for `=`. `at` is the position of the statement.
 ///
-/// The one error is want of memory, which also stands for want of numbers for calls and heights.
+/// The only error is out of memory, also if the numbers for calls or heights run out.
 fn target_of<'a>(
     alloc: Global,
     scope: &Scope<'a>,
@@ -128,7 +130,7 @@ fn target_of<'a>(
     op: Option<BinOp>,
     target: &'a Target,
     tally: &mut Tally,
-) -> Result<JudgedTarget, AllocError>
+) -> Result<InferredTarget, AllocError>
     ensures { IfOk result (λ j. GivesTarget at target.now.name.at op
         (typed_target_of target.now scope.now tally.old.calls) tally.old tally.new j) }
 {
@@ -138,56 +140,56 @@ fn target_of<'a>(
     }
 }
 
-/// What is assigned to as an expression, behind what this tally counts. It is judged once more, since its index stands twice in the typed
-/// tree; its calls and faults are counted elsewhere.
+/// The target as an expression, after what this tally counts. It is typed once more, since its index occurs
+/// twice in the typed tree; its calls and faults are counted elsewhere.
 ///
-/// The one error is want of memory, which also stands for want of numbers for calls and heights.
+/// The only error is out of memory, also if the numbers for calls or heights run out.
 fn target_value<'a>(
     alloc: Global,
     scope: &Scope<'a>,
     target: &'a Target,
     mut tally: Tally,
-) -> Result<Judged<'a>, AllocError>
-    ensures { IfOk result (λ j. Judges j
+) -> Result<Inferred<'a>, AllocError>
+    ensures { IfOk result (λ j. Infers j
         (typed_target_of target.now scope.now tally.calls).expression) }
 {
     let name = name_of(&target.name);
     let meaning = scope.meaning_of(&name);
     match &target.index {
-        None => judged::name(target.name.at, name, &meaning),
+        None => inferred::name(target.name.at, name, &meaning),
         Some(index) => {
             let j = conditional(alloc, scope, &index.value, &mut tally)?;
-            judged::element(alloc, target.name.at, &meaning, j)
+            inferred::element(alloc, target.name.at, &meaning, j)
         }
     }
 }
 
-/// What is assigned: a value, or what this operator makes of the target, behind what this tally counts, and the value.
+/// The assigned value: the given one, or that of this operator over the target and the given one.
 ///
-/// The one error is want of memory, which also stands for want of numbers for calls and heights.
+/// The only error is out of memory, also if the numbers for calls or heights run out.
 fn changed<'a>(
     alloc: Global,
     scope: &Scope<'a>,
     op: Option<BinOp>,
     target: &'a Target,
     before: Tally,
-    value: Judged<'a>,
-) -> Result<Judged<'a>, AllocError>
-    ensures { IfOk result (λ j. (e : Typed) → Judges value.entry e →
-        Judges j (changed op (typed_target_of target.now scope.now before.calls).expression e)) }
+    value: Inferred<'a>,
+) -> Result<Inferred<'a>, AllocError>
+    ensures { IfOk result (λ j. (e : Typed) → Infers value.entry e →
+        Infers j (changed op (typed_target_of target.now scope.now before.calls).expression e)) }
 {
     match op {
         None => Ok(value),
         Some(op) => {
             let left = target_value(alloc, scope, target, before)?;
-            judged::value(alloc, op, left, value)
+            inferred::value(alloc, op, left, value)
         }
     }
 }
 
-/// The kind of a statement that assigns to this.
-fn kind_of_target(target: &JudgedTarget) -> StmtKind
-    ensures { (s : TypedTarget) → JudgesTarget target.now s → result ≡ kind_of_target s.index }
+/// The kind of a statement with this target.
+fn kind_of_target(target: &InferredTarget) -> StmtKind
+    ensures { (s : TypedTarget) → InfersTarget target.now s → result ≡ kind_of_target s.index }
 {
     match &target.index {
         None => StmtKind::Assignment,
@@ -195,13 +197,13 @@ fn kind_of_target(target: &JudgedTarget) -> StmtKind
     }
 }
 
-/// The statement of this number that assigns a value to this.
-fn assigned_stmt(stmt: StmtId, target: JudgedTarget, value: Expr) -> Stmt
-    ensures { (s : TypedTarget) (e : Typed) → JudgesTarget target s →
+/// The statement of this number that assigns a value to the target.
+fn assigned_stmt(stmt: StmtId, target: InferredTarget, value: Expr) -> Stmt
+    ensures { (s : TypedTarget) (e : Typed) → InfersTarget target s →
         tree_of_expr value ≡ tree_as s.expression.t e
         → tree_of_stmt result ≡ assigned_tree stmt s e }
 {
-    let JudgedTarget { var, t: _, index } = target;
+    let InferredTarget { var, t: _, index } = target;
     match index {
         None => Stmt::Assign { stmt, var, value },
         Some(index) => Stmt::Store {
@@ -213,19 +215,19 @@ fn assigned_stmt(stmt: StmtId, target: JudgedTarget, value: Expr) -> Stmt
     }
 }
 
-/// An assignment of a whole expression, in a statement that begins at this position.
+/// Appends an assignment of a whole expression. `at` is the position of the statement.
 ///
-/// The one error is want of memory, which also stands for want of numbers.
+/// The only error is out of memory, also if the numbers run out.
 fn put_assignment<'a>(
     alloc: Global,
     at: At,
-    target: JudgedTarget,
-    whole: Judged<'a>,
+    target: InferredTarget,
+    whole: Inferred<'a>,
     work: &mut Work,
     stmts: &mut Vec<Stmt>,
 ) -> Result<(), AllocError>
-    ensures { OnOk result ((s : TypedTarget) (e : Typed) → JudgesTarget target s
-        → Judges whole.entry e →
+    ensures { OnOk result ((s : TypedTarget) (e : Typed) → InfersTarget target s
+        → Infers whole.entry e →
         Assigns at s e work.old work.new
         (map tree_of_stmt stmts.old.items) (map tree_of_stmt stmts.new.items)) }
 {
@@ -236,9 +238,9 @@ fn put_assignment<'a>(
     put(stmts, assigned_stmt(stmt, target, value))
 }
 
-/// An assignment (C90 6.3.16).
+/// Appends an assignment (C90 6.3.16).
 ///
-/// The one error is want of memory, which also stands for want of numbers.
+/// The only error is out of memory, also if the numbers run out.
 fn add_assign<'a>(
     alloc: Global,
     target: &'a Target,
@@ -261,9 +263,9 @@ fn add_assign<'a>(
     put_assignment(alloc, at, place, whole, work, stmts)
 }
 
-/// A step, which adds or takes away 1, in a statement that begins at this position (C90 6.3.2.4, 6.3.3.1).
+/// Appends a step, which adds or subtracts 1 (C90 6.3.2.4, 6.3.3.1). `at` is the position of the statement.
 ///
-/// The one error is want of memory, which also stands for want of numbers.
+/// The only error is out of memory, also if the numbers run out.
 fn add_step<'a>(
     alloc: Global,
     at: At,
@@ -281,14 +283,14 @@ fn add_step<'a>(
     let op = operator_at(operator);
     let before = work.tally;
     let place = target_of(alloc, scope, at, op, target, &mut work.tally)?;
-    let j = judged::constant(operator.at, CType::I32, 1)?;
+    let j = inferred::constant(operator.at, CType::I32, 1)?;
     let whole = changed(alloc, scope, op, target, before, j)?;
     put_assignment(alloc, at, place, whole, work, stmts)
 }
 
-/// A call as a statement (C90 6.3.2.2).
+/// Appends a call statement (C90 6.3.2.2).
 ///
-/// The one error is want of memory, which also stands for want of numbers.
+/// The only error is out of memory, also if the numbers run out.
 fn add_call<'a>(
     alloc: Global,
     name: &'a Token,
@@ -314,9 +316,9 @@ fn add_call<'a>(
     )
 }
 
-/// An assignment, a step or a call is typed and put behind those statements.
+/// Types an assignment, a step or a call, and appends it.
 ///
-/// The one error is want of memory, which also stands for want of numbers.
+/// The only error is out of memory, also if the numbers run out.
 pub(crate) fn add_simple<'a>(
     alloc: Global,
     simple: &'a Simple,
@@ -347,9 +349,9 @@ pub(crate) fn add_simple<'a>(
     }
 }
 
-/// Those of a list, one after the other.
+/// Types the assignments, steps and calls of a list, and appends them.
 ///
-/// The one error is want of memory, which also stands for want of numbers.
+/// The only error is out of memory, also if the numbers run out.
 pub(crate) fn add_simples<'a>(
     alloc: Global,
     simples: &'a Simples,

@@ -1,4 +1,5 @@
-//! Conditions, the heads of `for`s, and statements that hold others, from their typed parts (C90 6.6.4, 6.6.5).
+//! Conditions, the heads of `for`s, and statements that hold others, from their typed parts (C90 6.6.4,
+//! 6.6.5).
 
 ghost use Rattle.std.specs.Prelude.{◌≡◌, ◌∷◌, ◌++◌, [], map, IfOk, OnOk};
 ghost use Rattle.ba_statements.specs.Adding.{GivesTest, behind_part, state};
@@ -12,7 +13,7 @@ use crate::assignments::add_simples;
 use crate::declarations::add_declarators;
 use crate::work::{Work, put};
 use ba_expressions::expressions::conditional;
-use ba_expressions::judged;
+use ba_expressions::inferred;
 use ba_expressions::tally::HEIGHT_LIMIT;
 use ba_expressions::uses::add_tag_faults;
 use ba_numbers::ids::{At, StmtId};
@@ -38,7 +39,8 @@ pub struct Guarded {
     pub body: Stmt,
 }
 
-/// The head of a `for`: the typed statements before the loop, its condition, and those behind each turn.
+/// The head of a `for`: the typed statements before the loop, its condition, and the typed statements of its
+/// step.
 #[derive(Drop)]
 pub struct Head {
     pub first: Vec<Stmt>,
@@ -46,9 +48,9 @@ pub struct Head {
     pub step: Vec<Stmt>,
 }
 
-/// A condition, which is a statement that stands at the first token of its expression (C90 6.6.4, 6.6.5).
+/// A condition, which is a statement at the first token of its expression (C90 6.6.4, 6.6.5).
 ///
-/// The one error is want of memory, which also stands for want of numbers.
+/// The only error is out of memory, also if the numbers run out.
 fn add_test<'a>(
     alloc: Global,
     c: &'a Conditional,
@@ -65,7 +67,9 @@ fn add_test<'a>(
     Ok(Test { stmt, when: j.expr })
 }
 
-/// The same, in its parentheses.
+/// A condition in its parentheses.
+///
+/// The only error is out of memory, also if the numbers run out.
 pub(crate) fn add_condition<'a>(
     alloc: Global,
     condition: &'a Condition,
@@ -79,14 +83,14 @@ pub(crate) fn add_condition<'a>(
     add_test(alloc, &condition.test, scope, work)
 }
 
-/// The absent condition of a `for`, which is the constant 1 and stands at this position (C90 6.6.5.3).
+/// The absent condition of a `for`: the constant 1 at this position (C90 6.6.5.3).
 ///
-/// The one error is want of memory, which also stands for want of numbers.
+/// The only error is out of memory, also if the numbers run out.
 fn add_absent_test(at: At, work: &mut Work) -> Result<Test, AllocError>
     ensures { IfOk result (λ t. (scope : Scope) →
         GivesTest (one at scope work.old.tally.calls) scope work.old work.new t) }
 {
-    let j = judged::constant(at, CType::I32, 1)?;
+    let j = inferred::constant(at, CType::I32, 1)?;
     work.tally.add_limit(HEIGHT_LIMIT, j.height, j.first);
     let stmt = work.number(j.first, StmtKind::Condition)?;
     Ok(Test { stmt, when: j.expr })
@@ -94,7 +98,7 @@ fn add_absent_test(at: At, work: &mut Work) -> Result<Test, AllocError>
 
 /// The condition of a `for`, written or absent.
 ///
-/// The one error is want of memory, which also stands for want of numbers.
+/// The only error is out of memory, also if the numbers run out.
 fn for_test<'a>(
     alloc: Global,
     head: &'a ForHead,
@@ -111,9 +115,9 @@ fn for_test<'a>(
     }
 }
 
-/// What a `for` does before the loop. A declaration has a scope of its own.
+/// The first part of a `for`, before the loop. A declaration has its own scope.
 ///
-/// The one error is want of memory, which also stands for want of numbers.
+/// The only error is out of memory, also if the numbers run out.
 fn add_first<'a>(
     alloc: Global,
     first: &'a ForFirst,
@@ -138,9 +142,9 @@ fn add_first<'a>(
     }
 }
 
-/// What a `for` does behind each turn.
+/// The step of a `for`.
 ///
-/// The one error is want of memory, which also stands for want of numbers.
+/// The only error is out of memory, also if the numbers run out.
 fn add_step<'a>(
     alloc: Global,
     step: &'a Option<Simples>,
@@ -159,7 +163,7 @@ fn add_step<'a>(
 
 /// The head of a `for` (C90 6.6.5.3). What it declares is in scope from now on.
 ///
-/// The one error is want of memory, which also stands for want of numbers.
+/// The only error is out of memory, also if the numbers run out.
 pub(crate) fn add_head<'a>(
     alloc: Global,
     head: &'a ForHead,
@@ -176,7 +180,7 @@ pub(crate) fn add_head<'a>(
     Ok(Head { first, test, step })
 }
 
-/// An empty block, in place of no statement. It takes no memory.
+/// An empty block, for a missing statement. It takes no memory.
 fn no_stmt(alloc: Global) -> Stmt
     ensures { tree_of_stmt result ≡ block no_stmts }
 {
@@ -185,7 +189,7 @@ fn no_stmt(alloc: Global) -> Stmt
     }
 }
 
-/// The first of these, an empty block where there is none.
+/// The first of these statements, an empty block if there is none.
 pub(crate) fn first_stmt(alloc: Global, mut stmts: Vec<Stmt>) -> Stmt
     ensures { tree_of_stmt result ≡ one_of (map tree_of_stmt stmts.items) }
 {
@@ -196,7 +200,7 @@ pub(crate) fn first_stmt(alloc: Global, mut stmts: Vec<Stmt>) -> Stmt
     }
 }
 
-/// An `if` without `else` is put behind those statements (C90 6.6.4.1). The one error is want of memory.
+/// Appends an `if` without `else` (C90 6.6.4.1). The only error is out of memory.
 pub(crate) fn put_if(
     alloc: Global,
     guarded: Guarded,
@@ -222,7 +226,7 @@ pub(crate) fn put_if(
     )
 }
 
-/// An `if` with `else` is put behind those statements (C90 6.6.4.1). The one error is want of memory.
+/// Appends an `if` with `else` (C90 6.6.4.1). The only error is out of memory.
 pub(crate) fn put_if_else(
     alloc: Global,
     guarded: Guarded,
@@ -250,7 +254,7 @@ pub(crate) fn put_if_else(
     )
 }
 
-/// A `while` is put behind those statements (C90 6.6.5.1). The one error is want of memory.
+/// Appends a `while` (C90 6.6.5.1). The only error is out of memory.
 pub(crate) fn put_while(
     alloc: Global,
     test: Test,
@@ -265,7 +269,7 @@ pub(crate) fn put_while(
     put(stmts, Stmt::While { stmt, when, body })
 }
 
-/// A `do` is put behind those statements (C90 6.6.5.2). The one error is want of memory.
+/// Appends a `do` (C90 6.6.5.2). The only error is out of memory.
 pub(crate) fn put_do(
     alloc: Global,
     test: Test,
@@ -280,7 +284,7 @@ pub(crate) fn put_do(
     put(stmts, Stmt::DoWhile { stmt, when, body })
 }
 
-/// A `for` is put behind those statements (C90 6.6.5.3). The one error is want of memory.
+/// Appends a `for` (C90 6.6.5.3). The only error is out of memory.
 pub(crate) fn put_for(
     alloc: Global,
     head: Head,

@@ -1,16 +1,16 @@
 //! Declarations of variables (C90 6.5).
 
 ghost use Rattle.std.specs.Prelude.{◌≡◌, ◌==◌, ◌&&◌, not, ◌∷◌, [], List, Option, None, Some, false, cond, pos, option_map, is_some, length, map, unsigned_abs, IfOk, OnOk, MatchOption};
-ghost use Rattle.ba_statements.specs.Adding.{AddsEnumerator, AddsLength, GivesValue, GivesWhole, GivesWritten, IsLength, at_place, behind_part, first_of, initialising, keep_each, keep_one, kept, plain_length, state, value_at, with_count};
+ghost use Rattle.ba_statements.specs.Adding.{AddsEnumerator, AddsLength, GivesValue, GivesWhole, GivesWritten, IsLength, state_with, behind_part, first_of, initialising, keep_each, keep_one, kept, plain_length, state, value_at, with_count};
 ghost use Rattle.ba_typing.specs.Declarations.{TypedLength, add_constant, add_declaration, add_declarator, add_declarators, add_declare, add_enumerator_list, add_initialiser, add_optional_declarators, add_optional_initialiser, add_specifiers, add_tag, add_variable, braced_values, count_of_values, enumerators_in, exceeds, following, has_braces, init_tree, is_declared, is_length, length_in_range, written_count, typed_array_length, shape_of, values_of, written_length};
 ghost use Rattle.ba_typing.specs.Expressions.{Typed, constant_value, typed_conditional, tree_as};
-ghost use Rattle.ba_expressions.specs.Judging.{Judges};
+ghost use Rattle.ba_expressions.specs.Inferring.{Infers};
 ghost use Rattle.ba_tree.specs.Trees.{StmtTree, tree_of_expr, tree_of_stmt};
 ghost use Rattle.ba_statements.specs.declared.work.Work.{Work};
 
 use crate::work::{Work, put};
 use ba_expressions::expressions::conditional;
-use ba_expressions::judged::{Judged, placeholder};
+use ba_expressions::inferred::{Inferred, placeholder};
 use ba_expressions::tally::{HEIGHT_LIMIT, Tally};
 use ba_expressions::uses::add_tag_faults;
 use ba_numbers::ids::{At, StmtId, VarId};
@@ -29,14 +29,14 @@ use ba_typing::names::{name_of, tag_of_declaration, type_specified};
 use ba_typing::text::Text;
 use std::alloc::{AllocError, Global};
 
-/// The length of an array: how many elements, `None` where it is bad, and whether it is written.
+/// The length of an array: how many elements, `None` if it is bad, and whether it is written.
 #[derive(Clone, Copy)]
 pub struct Length {
     pub count: Option<u32>,
     pub is_written: bool,
 }
 
-/// A variable that is declared: the position of its name, its number and its type, and its length if it is an array.
+/// A declared variable: the position of its name, its number and its type, and its length if it is an array.
 #[derive(Clone, Copy)]
 pub struct Declared {
     pub at: At,
@@ -45,16 +45,16 @@ pub struct Declared {
     pub length: Option<Length>,
 }
 
-/// The whole of an expression whose statement stands at this position: its height is limited.
+/// A whole expression of a statement at this position; its height is limited.
 ///
-/// The one error is want of memory, which also stands for want of numbers for calls and heights.
+/// The only error is out of memory, also if the numbers for calls or heights run out.
 pub fn whole<'a>(
     alloc: Global,
     scope: &Scope<'a>,
     at: At,
     c: &'a Conditional,
     tally: &mut Tally,
-) -> Result<Judged<'a>, AllocError>
+) -> Result<Inferred<'a>, AllocError>
     ensures { GivesWhole at (typed_conditional c.now scope.now tally.old.calls) tally.old tally.new
         result }
 {
@@ -63,7 +63,7 @@ pub fn whole<'a>(
     Ok(j)
 }
 
-/// A number of elements where it is from 1 to 256.
+/// The number of elements if it is from 1 to 256.
 fn in_range(value: i64) -> Option<u32>
     ensures { result ≡ cond (is_length value) (Some (unsigned_abs value)) None }
 {
@@ -74,9 +74,9 @@ fn in_range(value: i64) -> Option<u32>
     }
 }
 
-/// The value of a constant expression converted to a type, `None` where it is not constant or traps.
-pub(crate) fn constant_value(t: CType, j: &Judged) -> Option<i64>
-    ensures { (s : Typed) → Judges j.now s → result ≡ constant_value t s }
+/// The value of a constant expression converted to a type, `None` if it is not constant or traps.
+pub(crate) fn constant_value(t: CType, j: &Inferred) -> Option<i64>
+    ensures { (s : Typed) → Infers j.now s → result ≡ constant_value t s }
 {
     if !j.is_constant {
         return None;
@@ -87,7 +87,7 @@ pub(crate) fn constant_value(t: CType, j: &Judged) -> Option<i64>
     }
 }
 
-/// The length that so many initialisers give.
+/// The length of an array with this many initialisers and no written length.
 fn counted_length(values: Option<usize>) -> Option<u32>
     ensures { result ≡ length_in_range (option_map pos values) }
 {
@@ -98,9 +98,9 @@ fn counted_length(values: Option<usize>) -> Option<u32>
     }
 }
 
-/// A written length, `None` where it is not constant, traps or is out of range.
-fn written_length(j: &Judged) -> Option<u32>
-    ensures { (s : Typed) → Judges j.now s → result ≡ written_length s }
+/// A written length, `None` if it is not constant, traps or is out of range.
+fn written_length(j: &Inferred) -> Option<u32>
+    ensures { (s : Typed) → Infers j.now s → result ≡ written_length s }
 {
     if !j.is_constant {
         return None;
@@ -111,9 +111,9 @@ fn written_length(j: &Judged) -> Option<u32>
     }
 }
 
-/// The length of an array whose name stands at this position, and which has so many initialisers, if any.
+/// The length of an array whose name is at this position, with the number of its initialisers, if it has any.
 ///
-/// The one error is want of memory, which also stands for want of numbers for calls and heights.
+/// The only error is out of memory, also if the numbers for calls or heights run out.
 pub fn array_length<'a>(
     alloc: Global,
     at: At,
@@ -144,9 +144,9 @@ pub fn array_length<'a>(
     }
 }
 
-/// A length is counted, a bad one as a fault.
+/// Counts the elements of a length; a bad length is a fault.
 ///
-/// The one error is want of memory, which stands for want of numbers.
+/// The only error is out of memory, also if the numbers run out.
 fn add_count(at: At, count: Option<u32>, work: &mut Work) -> Result<(), AllocError>
     ensures { OnOk result (work.new ≡ with_count work.old at count) }
 {
@@ -159,9 +159,9 @@ fn add_count(at: At, count: Option<u32>, work: &mut Work) -> Result<(), AllocErr
     }
 }
 
-/// The length of an array whose name stands at this position: its elements are counted.
+/// The length of an array whose name is at this position; its elements are counted.
 ///
-/// The one error is want of memory, which also stands for want of numbers.
+/// The only error is out of memory, also if the numbers run out.
 pub fn add_length<'a>(
     alloc: Global,
     at: At,
@@ -184,7 +184,7 @@ pub fn add_length<'a>(
     }
 }
 
-/// What a variable with this length, if it is an array, holds; a bad length counts as 1.
+/// The shape of a variable: an array if it has a length; a bad length counts as 1.
 pub fn shape_of(length: Option<Length>) -> Shape
     ensures { (l : Option TypedLength) → length ≡ plain_length l → result ≡ shape_of l }
 {
@@ -194,7 +194,7 @@ pub fn shape_of(length: Option<Length>) -> Shape
     }
 }
 
-/// Whether a name is declared before in the innermost scope, in the file's also as a function among these.
+/// Whether the innermost scope has declared a name before. In the file's scope these functions count too.
 fn is_declared<'a>(scope: &Scope<'a>, functions: &Functions<'a>, name: &Text<'a>) -> bool
     ensures { result ≡ is_declared scope.now functions.now name.now }
 {
@@ -202,9 +202,10 @@ fn is_declared<'a>(scope: &Scope<'a>, functions: &Functions<'a>, name: &Text<'a>
         || (scope.depth() == 0 && functions.is_declared(name))
 }
 
-/// A variable whose name stands at this position, behind the functions that are declared before it: it is in scope from now on.
+/// Declares a variable whose name is at this position, after these functions were declared. It is in scope
+/// from now on.
 ///
-/// The one error is want of memory, which also stands for want of numbers.
+/// The only error is out of memory, also if the numbers run out.
 pub fn add_variable<'a>(
     functions: &Functions<'a>,
     at: At,
@@ -213,9 +214,9 @@ pub fn add_variable<'a>(
     scope: &mut Scope<'a>,
     work: &mut Work,
 ) -> Result<(), AllocError>
-    ensures { OnOk result ((stmts : List StmtTree) → at_place scope.new work.new stmts
+    ensures { OnOk result ((stmts : List StmtTree) → state_with scope.new work.new stmts
         ≡ behind_part (add_variable functions.now at name.entry variable)
-        (at_place scope.old work.old stmts)) }
+        (state_with scope.old work.old stmts)) }
 {
     work.tally
         .add_if(is_declared(scope, functions, &name), Cause::Twice, at);
@@ -228,18 +229,18 @@ pub fn add_variable<'a>(
     })
 }
 
-/// A tag whose list stands behind it: it is in scope from now on.
+/// Declares a tag with a list. It is in scope from now on.
 ///
-/// The one error is want of memory.
+/// The only error is out of memory.
 fn add_tag<'a>(
     tag: Option<&'a Token>,
     scope: &mut Scope<'a>,
     tally: &mut Tally,
 ) -> Result<(), AllocError>
     ensures { OnOk result ((work : Work) (stmts : List StmtTree) → work.tally ≡ tally.old →
-        at_place scope.new (record work { tally = tally.new }) stmts
+        state_with scope.new (record work { tally = tally.new }) stmts
         ≡ behind_part (add_tag (option_map (λ t. t.now) tag.entry))
-        (at_place scope.old work stmts)) }
+        (state_with scope.old work stmts)) }
 {
     let Some(tag) = tag else {
         return Ok(());
@@ -258,10 +259,10 @@ fn add_tag<'a>(
     })
 }
 
-/// An enumeration constant of this value whose name stands at this position, behind the functions that are declared before it: it is in
-/// scope from now on.
+/// Declares an enumeration constant of this value whose name is at this position, after these functions were
+/// declared. It is in scope from now on.
 ///
-/// The one error is want of memory, which also stands for want of numbers.
+/// The only error is out of memory, also if the numbers run out.
 fn add_constant<'a>(
     functions: &Functions<'a>,
     at: At,
@@ -270,9 +271,9 @@ fn add_constant<'a>(
     scope: &mut Scope<'a>,
     work: &mut Work,
 ) -> Result<(), AllocError>
-    ensures { OnOk result ((stmts : List StmtTree) → at_place scope.new work.new stmts
+    ensures { OnOk result ((stmts : List StmtTree) → state_with scope.new work.new stmts
         ≡ behind_part (add_constant functions.now at name.entry value)
-        (at_place scope.old work.old stmts)) }
+        (state_with scope.old work.old stmts)) }
 {
     work.tally
         .add_if(is_declared(scope, functions, &name), Cause::Twice, at);
@@ -285,9 +286,9 @@ fn add_constant<'a>(
     })
 }
 
-/// The value of an enumeration constant that is written, `None` where it is not constant or traps.
+/// The written value of an enumeration constant, `None` if it is not constant or traps.
 ///
-/// The one error is want of memory, which also stands for want of numbers for calls and heights.
+/// The only error is out of memory, also if the numbers for calls or heights run out.
 fn written_value<'a>(
     alloc: Global,
     at: At,
@@ -304,7 +305,7 @@ fn written_value<'a>(
     Ok(value)
 }
 
-/// The value of a constant without a written one, behind one of the value `last`, if there is one.
+/// The value of a constant without a written one; `last` is that of the constant before it, if there is one.
 fn following(last: Option<i64>) -> i64
     ensures { result ≡ following last }
 {
@@ -314,7 +315,7 @@ fn following(last: Option<i64>) -> i64
     }
 }
 
-/// The same, where one is written.
+/// The written value of an enumeration constant, if there is one.
 fn optional_value<'a>(
     alloc: Global,
     enumerator: &'a Enumerator,
@@ -330,9 +331,10 @@ fn optional_value<'a>(
     }
 }
 
-/// An enumeration constant behind one of the value `last`, if there is one, and its own value. It is known from its end on.
+/// Declares an enumeration constant, and gives its value; `last` is that of the constant before it, if there
+/// is one. It is known from its end on.
 ///
-/// The one error is want of memory, which also stands for want of numbers.
+/// The only error is out of memory, also if the numbers run out.
 fn add_enumerator<'a>(
     alloc: Global,
     functions: &Functions<'a>,
@@ -352,9 +354,9 @@ fn add_enumerator<'a>(
     Ok(value)
 }
 
-/// The constants of an enumerated type, the first of which is 0 where nothing else is written (C90 6.5.2.2).
+/// Declares the constants of an enumerated type, the first of which is 0 by default (C90 6.5.2.2).
 ///
-/// The one error is want of memory, which also stands for want of numbers.
+/// The only error is out of memory, also if the numbers run out.
 fn add_enumerators<'a>(
     alloc: Global,
     functions: &Functions<'a>,
@@ -362,9 +364,9 @@ fn add_enumerators<'a>(
     scope: &mut Scope<'a>,
     work: &mut Work,
 ) -> Result<(), AllocError>
-    ensures { OnOk result ((stmts : List StmtTree) → at_place scope.new work.new stmts
+    ensures { OnOk result ((stmts : List StmtTree) → state_with scope.new work.new stmts
         ≡ behind_part (add_enumerator_list functions.now None (enumerators_in list.now))
-        (at_place scope.old work.old stmts)) }
+        (state_with scope.old work.old stmts)) }
 {
     let mut last = add_enumerator(alloc, functions, None, &list.first, scope, work)?;
     for next in &list.rest {
@@ -373,10 +375,10 @@ fn add_enumerators<'a>(
     Ok(())
 }
 
-/// What a declaration of a file or of a block begins with, behind the functions that are declared before it: a list declares its tag and
-/// its constants; a tag without one is known.
+/// Types the specifiers of a declaration of a file or a block, after these functions were declared. A list
+/// declares its tag and its constants; a tag without a list has to be known.
 ///
-/// The one error is want of memory, which also stands for want of numbers.
+/// The only error is out of memory, also if the numbers run out.
 pub fn add_specifiers<'a>(
     alloc: Global,
     functions: &Functions<'a>,
@@ -384,9 +386,9 @@ pub fn add_specifiers<'a>(
     scope: &mut Scope<'a>,
     work: &mut Work,
 ) -> Result<(), AllocError>
-    ensures { OnOk result ((stmts : List StmtTree) → at_place scope.new work.new stmts
+    ensures { OnOk result ((stmts : List StmtTree) → state_with scope.new work.new stmts
         ≡ behind_part (add_specifiers functions.now specifiers.now)
-        (at_place scope.old work.old stmts)) }
+        (state_with scope.old work.old stmts)) }
 {
     let tag = tag_of_declaration(specifiers);
     match &specifiers.enumerators {
@@ -401,9 +403,9 @@ pub fn add_specifiers<'a>(
     }
 }
 
-/// The declaration of a local variable is executed; that of a global is not.
+/// Appends the declaration of a local variable, which is executed; that of a global is not.
 ///
-/// The one error is want of memory.
+/// The only error is out of memory.
 fn add_declare(var: VarId, scope: &Scope, stmts: &mut Vec<Stmt>) -> Result<(), AllocError>
     ensures { OnOk result ((work : Work) → state scope.now work stmts.new
         ≡ behind_part (add_declare var) (state scope.now work stmts.old)) }
@@ -414,14 +416,14 @@ fn add_declare(var: VarId, scope: &Scope, stmts: &mut Vec<Stmt>) -> Result<(), A
     put(stmts, Stmt::Declare { var })
 }
 
-/// Whether a value of an initialiser is not constant, though a global's has to be.
-fn is_unfit(scope: &Scope, j: &Judged) -> bool
+/// Whether a value of an initialiser has to be constant, for a global, and is not.
+fn is_unfit(scope: &Scope, j: &Inferred) -> bool
     ensures { result ≡ ((scope.now.depth == 0) && not j.now.is_constant) }
 {
     scope.depth() == 0 && !j.is_constant
 }
 
-/// A value of an initialiser.
+/// Adds a value of an initialiser.
 fn add_value<'a>(
     alloc: Global,
     d: Declared,
@@ -444,7 +446,7 @@ fn add_value<'a>(
 
 /// The values of an initialiser, converted to the variable's type.
 ///
-/// The one error is want of memory, which also stands for want of numbers for calls and heights.
+/// The only error is out of memory, also if the numbers for calls or heights run out.
 fn initial_values<'a>(
     alloc: Global,
     d: Declared,
@@ -497,7 +499,7 @@ fn has_braces(init: &Initialiser) -> bool
     matches!(init, Initialiser::Braced { .. })
 }
 
-/// Whether braces stand for what is no array, or none for an array.
+/// Whether there are braces for a variable, or none for an array.
 fn is_unlike(length: Option<Length>, init: &Initialiser) -> bool
     ensures { result ≡ cond (is_some length) (not (has_braces init.now)) (has_braces init.now) }
 {
@@ -520,14 +522,14 @@ fn count_of_values(init: &Option<Initialiser>) -> Option<usize>
     }
 }
 
-/// How many there are.
+/// How many values there are.
 fn number_of(values: &Vec<Expr>) -> usize
     ensures { result ≡ length values.now.items }
 {
     values.len()
 }
 
-/// Whether an array of a good written length has fewer elements than so many values.
+/// Whether an array of a good written length has fewer elements than this many values.
 fn has_too_many(length: Option<Length>, count: usize) -> bool
     ensures { (l : Option TypedLength) → length ≡ plain_length l → result
         ≡ exceeds (written_count l) count }
@@ -543,7 +545,7 @@ fn has_too_many(length: Option<Length>, count: usize) -> bool
     }
 }
 
-/// The initialiser of a variable as a statement: of an array all values, of a variable its one.
+/// The initialiser of a variable as a statement: all values of an array, or the one value of a variable.
 fn init_stmt(stmt: StmtId, d: Declared, values: Vec<Expr>) -> Stmt
     ensures { (es : List Typed) → map tree_of_expr values.items ≡ map (tree_as d.t) es
         → tree_of_stmt result ≡ init_tree stmt d.var d.t (is_some d.length) es }
@@ -563,7 +565,7 @@ fn init_stmt(stmt: StmtId, d: Declared, values: Vec<Expr>) -> Stmt
     }
 }
 
-/// The first of these.
+/// The first of these values.
 fn first_value(mut values: Vec<Expr>) -> Expr
     ensures { tree_of_expr result ≡ first_of (map tree_of_expr values.items) }
 {
@@ -574,9 +576,9 @@ fn first_value(mut values: Vec<Expr>) -> Expr
     }
 }
 
-/// The initialiser of a variable (C90 6.5.7).
+/// Appends the initialiser of a variable (C90 6.5.7).
 ///
-/// The one error is want of memory, which also stands for want of numbers.
+/// The only error is out of memory, also if the numbers run out.
 fn add_initialiser<'a>(
     alloc: Global,
     d: Declared,
@@ -599,7 +601,7 @@ fn add_initialiser<'a>(
     put(stmts, init_stmt(stmt, d, values))
 }
 
-/// The same, where there is one.
+/// Appends the initialiser, if there is one.
 fn add_optional_initialiser<'a>(
     alloc: Global,
     d: Declared,
@@ -619,9 +621,9 @@ fn add_optional_initialiser<'a>(
     }
 }
 
-/// A declarator of a type, `None` for `void`, behind the functions that are declared before it (C90 6.5.4).
+/// Types a declarator of a type, `None` for `void`, after these functions were declared (C90 6.5.4).
 ///
-/// The one error is want of memory, which also stands for want of numbers.
+/// The only error is out of memory, also if the numbers run out.
 fn add_declarator<'a>(
     alloc: Global,
     functions: &Functions<'a>,
@@ -663,9 +665,9 @@ fn add_declarator<'a>(
     Ok(())
 }
 
-/// The declarators of a list, of a type, behind the functions that are declared before them.
+/// Types the declarators of a list, of one type, after these functions were declared.
 ///
-/// The one error is want of memory, which also stands for want of numbers.
+/// The only error is out of memory, also if the numbers run out.
 pub fn add_declarators<'a>(
     alloc: Global,
     functions: &Functions<'a>,
@@ -685,9 +687,9 @@ pub fn add_declarators<'a>(
     Ok(())
 }
 
-/// The declarators of a list, where there is one.
+/// Types the declarators of a list, if there is one.
 ///
-/// The one error is want of memory, which also stands for want of numbers.
+/// The only error is out of memory, also if the numbers run out.
 pub fn add_optional_declarators<'a>(
     alloc: Global,
     functions: &Functions<'a>,
@@ -709,9 +711,9 @@ pub fn add_optional_declarators<'a>(
     }
 }
 
-/// A declaration of a block (C90 6.5).
+/// Types a declaration of a block (C90 6.5).
 ///
-/// The one error is want of memory, which also stands for want of numbers.
+/// The only error is out of memory, also if the numbers run out.
 pub fn add_declaration<'a>(
     alloc: Global,
     declaration: &'a Declaration,

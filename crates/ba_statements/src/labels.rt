@@ -4,7 +4,7 @@ ghost use Rattle.std.specs.Prelude.{◌≡◌, ◌∷◌, ◌++◌, [], map, IfO
 ghost use Rattle.ba_statements.specs.Labelling.{AddsLabel, GivesControlling};
 ghost use Rattle.ba_typing.specs.Expressions.{typed_conditional};
 ghost use Rattle.ba_typing.specs.Statements.{add_case, add_default, add_label, has_value, label_faults, no_labels, test_of, with_start};
-ghost use Rattle.ba_expressions.specs.Judging.{with_faults};
+ghost use Rattle.ba_expressions.specs.Inferring.{with_faults};
 ghost use Rattle.ba_tree.specs.Trees.{stmts_of, switch, tree_of_expr, tree_of_stmt};
 
 use crate::declarations::{constant_value, whole};
@@ -23,7 +23,8 @@ use ba_typing::fault::Cause;
 use ba_typing::meanings::Labels;
 use std::alloc::{AllocError, Global};
 
-/// A numbered controlling expression of a `switch`: its number and its position, its promoted type, and its typed tree.
+/// A numbered controlling expression of a `switch`: its number, its position, its promoted type, and its
+/// typed tree.
 #[derive(Drop)]
 pub struct Controlling {
     pub stmt: StmtId,
@@ -32,9 +33,9 @@ pub struct Controlling {
     pub on: Expr,
 }
 
-/// The controlling expression of a `switch`, in its parentheses, which is a statement that stands at its first token.
+/// The controlling expression of a `switch`, in its parentheses. It is a statement at its first token.
 ///
-/// The one error is want of memory, which also stands for want of numbers.
+/// The only error is out of memory, also if the numbers run out.
 pub(crate) fn add_controlling<'a>(
     alloc: Global,
     condition: &'a Condition,
@@ -53,7 +54,7 @@ pub(crate) fn add_controlling<'a>(
     Ok(Controlling { stmt, at, t, on })
 }
 
-/// No label. It takes no memory.
+/// No labels. It takes no memory.
 pub(crate) fn no_labels(alloc: Global) -> Labels
     ensures { result ≡ no_labels }
 {
@@ -70,9 +71,10 @@ fn has_value(starts: &[Start], value: i64) -> bool
     starts.iter().any(|start| start.value == value)
 }
 
-/// The value at this position of a `case`'s constant, where it has one, belongs to so many statements.
+/// Adds the label of a `case` whose constant has this value, if it has one; `count` statements of the body
+/// are before it.
 ///
-/// The one error is want of memory.
+/// The only error is out of memory.
 fn add_start(
     value: Option<i64>,
     at: At,
@@ -97,9 +99,9 @@ fn add_start(
     }
 }
 
-/// A `case` where so many statements stand before it in the body of this `switch`.
+/// Adds a `case` of this `switch`; `count` statements of the body are before it.
 ///
-/// The one error is want of memory, which also stands for want of numbers for calls and heights.
+/// The only error is out of memory, also if the numbers for calls or heights run out.
 fn add_case<'a>(
     alloc: Global,
     switch: &Controlling,
@@ -118,7 +120,7 @@ fn add_case<'a>(
     add_start(value, j.first, count, tally, labels)
 }
 
-/// A `default` at this position, where so many statements stand before it in the body.
+/// Adds a `default` at this position; `count` statements of the body are before it.
 fn add_default(at: At, count: u32, tally: &mut Tally, labels: &mut Labels)
     ensures { AddsLabel (add_default at labels.old count) tally.old tally.new labels.new }
 {
@@ -126,9 +128,9 @@ fn add_default(at: At, count: u32, tally: &mut Tally, labels: &mut Labels)
     labels.other = Some(count);
 }
 
-/// A label where so many statements stand before it in the body of this `switch`.
+/// Adds a label of this `switch`; `count` statements of the body are before it.
 ///
-/// The one error is want of memory, which also stands for want of numbers.
+/// The only error is out of memory, also if the numbers run out.
 pub(crate) fn add_label<'a>(
     alloc: Global,
     switch: &Controlling,
@@ -151,7 +153,7 @@ pub(crate) fn add_label<'a>(
     }
 }
 
-/// A `switch` is put behind those statements (C90 6.6.4.2). The one error is want of memory.
+/// Appends a `switch` (C90 6.6.4.2). The only error is out of memory.
 pub(crate) fn put_switch(
     controlling: Controlling,
     labels: Labels,

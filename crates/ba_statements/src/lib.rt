@@ -1,4 +1,4 @@
-//! The typing of declarations and statements (C90 6.5, 6.6).
+//! Type checking of declarations and statements (C90 6.5, 6.6).
 #![tactic(auto)]
 
 mod assignments;

@@ -34,7 +34,7 @@ use std::alloc::{AllocError, Global};
 
 /// `return` with a value (C90 6.6.6.4).
 ///
-/// The one error is want of memory, which also stands for want of numbers.
+/// The only error is out of memory, also if the numbers run out.
 fn add_return<'a>(
     alloc: Global,
     at: At,
@@ -57,7 +57,7 @@ fn add_return<'a>(
 
 /// `assert` (C90 7.2.1.1).
 ///
-/// The one error is want of memory, which also stands for want of numbers.
+/// The only error is out of memory, also if the numbers run out.
 fn add_assert<'a>(
     alloc: Global,
     at: At,
@@ -77,7 +77,7 @@ fn add_assert<'a>(
 
 /// A value that a `printf` prints.
 ///
-/// The one error is want of memory, which also stands for want of numbers for calls and heights.
+/// The only error is out of memory, also if the numbers for calls or heights run out.
 fn add_printed<'a>(
     alloc: Global,
     at: At,
@@ -97,7 +97,7 @@ fn add_printed<'a>(
 
 /// The values that a `printf` prints.
 ///
-/// The one error is want of memory, which also stands for want of numbers for calls and heights.
+/// The only error is out of memory, also if the numbers for calls or heights run out.
 fn printed_values<'a>(
     alloc: Global,
     at: At,
@@ -118,7 +118,7 @@ fn printed_values<'a>(
 
 /// `printf` (C90 7.9.6.3).
 ///
-/// The one error is want of memory, which also stands for want of numbers.
+/// The only error is out of memory, also if the numbers run out.
 fn add_printf<'a>(
     alloc: Global,
     at: At,
@@ -138,7 +138,7 @@ fn add_printf<'a>(
 
 /// `break` (C90 6.6.6.3).
 ///
-/// The one error is want of memory.
+/// The only error is out of memory.
 fn add_break<'a>(
     at: At,
     scope: &Scope<'a>,
@@ -155,7 +155,7 @@ fn add_break<'a>(
 
 /// `continue` (C90 6.6.6.2).
 ///
-/// The one error is want of memory.
+/// The only error is out of memory.
 fn add_continue<'a>(
     at: At,
     scope: &Scope<'a>,
@@ -172,7 +172,7 @@ fn add_continue<'a>(
 
 /// A jump without a value, by its keyword (C90 6.6.6).
 ///
-/// The one error is want of memory.
+/// The only error is out of memory.
 fn add_jump<'a>(
     keyword: &'a Token,
     scope: &Scope<'a>,
@@ -192,7 +192,7 @@ fn add_jump<'a>(
 
 /// A jump with a value or without one (C90 6.6.6).
 ///
-/// The one error is want of memory, which also stands for want of numbers.
+/// The only error is out of memory, also if the numbers run out.
 fn add_jump_with<'a>(
     alloc: Global,
     keyword: &'a Token,
@@ -211,9 +211,9 @@ fn add_jump_with<'a>(
     }
 }
 
-/// A statement is typed and put behind those. What is in scope stays as it is.
+/// Types a statement, and appends it. What is in scope stays.
 ///
-/// The one error is want of memory, which also stands for want of numbers.
+/// The only error is out of memory, also if the numbers run out.
 #[cycle(statement)]
 pub fn add_statement<'a>(
     alloc: Global,
@@ -283,9 +283,9 @@ pub fn add_statement<'a>(
     }
 }
 
-/// What stands in a block, one after the other, without a scope of its own (C90 6.6.2).
+/// Types the items of a block in order, in the present scope (C90 6.6.2).
 ///
-/// The one error is want of memory, which also stands for want of numbers.
+/// The only error is out of memory, also if the numbers run out.
 #[cycle(statement)]
 pub fn add_items<'a>(
     alloc: Global,
@@ -321,7 +321,7 @@ fn add_item<'a>(
     }
 }
 
-/// A block, which has a scope of its own (C90 6.6.2).
+/// A block, with its own scope (C90 6.6.2).
 #[cycle(statement)]
 fn add_block<'a>(
     alloc: Global,
@@ -342,7 +342,7 @@ fn add_block<'a>(
     put(stmts, Stmt::Block { body })
 }
 
-/// A statement that another one controls (C90 6.6.4, 6.6.5). Where it adds none, an empty block takes its place.
+/// A statement that another one controls (C90 6.6.4, 6.6.5). An empty block replaces a missing one.
 #[cycle(statement)]
 fn add_controlled<'a>(
     alloc: Global,
@@ -382,7 +382,7 @@ fn add_loop_body<'a>(
     Ok(held)
 }
 
-/// The condition of an `if`, and the statement that is executed where it holds (C90 6.6.4.1).
+/// The condition of an `if`, and the statement that is executed if it holds (C90 6.6.4.1).
 #[cycle(statement)]
 fn add_guarded<'a>(
     alloc: Global,
@@ -401,7 +401,7 @@ fn add_guarded<'a>(
     Ok(Guarded { test, body })
 }
 
-/// The statement that is executed where the condition of this `if` does not hold (C90 6.6.4.1).
+/// The statement that is executed if the condition of this `if` does not hold (C90 6.6.4.1).
 #[cycle(statement)]
 fn add_else<'a>(
     alloc: Global,
@@ -450,7 +450,7 @@ fn add_switch<'a>(
     put_switch(switch, labels, body, stmts)
 }
 
-/// What stands in the braces of a `switch`: labels, each with the statements behind it.
+/// The contents of the braces of a `switch`: labels, each with the statements after it.
 #[cycle(statement)]
 fn add_groups<'a>(
     alloc: Global,
@@ -472,7 +472,7 @@ fn add_groups<'a>(
     Ok(())
 }
 
-/// A label, and the statements behind it.
+/// A label, and the statements after it.
 #[cycle(statement)]
 fn add_group<'a>(
     alloc: Global,
@@ -544,7 +544,7 @@ fn add_do<'a>(
     put_do(alloc, test, held, stmts)
 }
 
-/// A `for` (C90 6.6.5.3). What its head declares is not in scope behind it.
+/// A `for` (C90 6.6.5.3). What its head declares is not in scope after it.
 #[cycle(statement)]
 fn add_for<'a>(
     alloc: Global,

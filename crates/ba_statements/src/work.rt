@@ -1,4 +1,4 @@
-//! What typing has made of a program so far.
+//! What type checking has made of a program so far.
 
 ghost use Rattle.std.specs.Prelude.{◌≡◌, [], ◌∷◌, ◌++◌, ◌+◌, IfOk, OnOk, length, map};
 ghost use Rattle.ba_statements.specs.Adding.{Numbers, no_work, with_constant, with_elements, with_variable};
@@ -10,17 +10,17 @@ use ba_numbers::ids::{At, StmtId, VarId};
 use ba_tree::tree::{Stmt, StmtInfo, StmtKind, Variable};
 use std::alloc::{AllocError, Global};
 
-/// The greatest number of variables and enumeration constants.
+/// The limit on variables and enumeration constants together.
 const VARIABLE_LIMIT: u32 = 2000;
 
-/// The greatest number of numbered statements.
+/// The limit on numbered statements.
 const STATEMENT_LIMIT: u32 = 4000;
 
-/// The greatest number of elements of all arrays.
+/// The limit on elements of all arrays together.
 const ELEMENT_LIMIT: u32 = 1024;
 
-/// The variables and the numbered statements in the order of the text, how many enumeration constants there are, how many elements the
-/// arrays have, and the calls and faults.
+/// The variables and numbered statements in the order of the text; how many enumeration constants and array
+/// elements there are; and the calls and faults.
 #[derive(Drop)]
 pub struct Work {
     pub variables: Items<Variable>,
@@ -31,7 +31,7 @@ pub struct Work {
 }
 
 impl Work {
-    /// Nothing was made yet. It takes no memory.
+    /// Nothing yet. It takes no memory.
     pub fn new(alloc: Global) -> Work
         ensures { result ≡ no_work }
     {
@@ -44,7 +44,7 @@ impl Work {
         }
     }
 
-    /// The number of the next variable. The one error is want of memory, which stands for want of numbers.
+    /// The number of the next variable. The only error is out of memory, also if the numbers run out.
     pub fn next_variable(&self) -> Result<VarId, AllocError>
         ensures { IfOk result (λ var. var ≡ record { 0 = length self.now.variables }) }
     {
@@ -52,9 +52,9 @@ impl Work {
         Ok(VarId(count))
     }
 
-    /// One more variable, whose name stands at this position; one past the limit is a fault.
+    /// Adds a variable whose name is at this position; past the limit it is a fault.
     ///
-    /// The one error is want of memory, which also stands for want of numbers.
+    /// The only error is out of memory, also if the numbers run out.
     pub fn add_variable(&mut self, at: At, variable: Variable) -> Result<VarId, AllocError>
         ensures var { IfOk result (λ var. var ≡ record { 0 = length self.old.variables }) }
         ensures added { OnOk result (self.new ≡ with_variable self.old at variable) }
@@ -66,9 +66,9 @@ impl Work {
         Ok(VarId(count))
     }
 
-    /// One more enumeration constant, whose name stands at this position; one past the limit is a fault.
+    /// Adds an enumeration constant whose name is at this position; past the limit it is a fault.
     ///
-    /// The one error is want of memory, which stands for want of numbers.
+    /// The only error is out of memory, also if the numbers run out.
     pub fn add_constant(&mut self, at: At) -> Result<(), AllocError>
         ensures { OnOk result (self.new ≡ with_constant self.old at) }
     {
@@ -82,8 +82,8 @@ impl Work {
         Ok(())
     }
 
-    /// The number of the next variable or constant, behind so many variables. The one error is want of memory, which stands for want of
-    /// numbers.
+    /// The number of the next variable or constant, after this many variables. The only error is out of
+    /// memory, also if the numbers run out.
     fn next_name(&self, variables: u32) -> Result<u32, AllocError>
         ensures { IfOk result (λ number. number ≡ variables + self.now.constants + 1) }
     {
@@ -96,9 +96,9 @@ impl Work {
         }
     }
 
-    /// A statement of this kind, whose first token stands at this position, gets the next number; one past the limit is a fault.
+    /// Numbers a statement of this kind, whose first token is at this position; past the limit it is a fault.
     ///
-    /// The one error is want of memory, which also stands for want of numbers.
+    /// The only error is out of memory, also if the numbers run out.
     pub fn number(&mut self, at: At, kind: StmtKind) -> Result<StmtId, AllocError>
         ensures { IfOk result (λ stmt. Numbers at kind stmt self.old self.new) }
     {
@@ -111,9 +111,9 @@ impl Work {
         Ok(StmtId(number))
     }
 
-    /// So many elements of an array at this position more; those past the limit are a fault.
+    /// Adds `count` elements of an array whose name is at this position; past the limit they are a fault.
     ///
-    /// The one error is want of memory, which stands for want of numbers.
+    /// The only error is out of memory, also if the numbers run out.
     pub fn add_elements(&mut self, count: u32, at: At) -> Result<(), AllocError>
         ensures { OnOk result (self.new ≡ with_elements self.old count at) }
     {
@@ -126,7 +126,7 @@ impl Work {
     }
 }
 
-/// A count as the number of what comes next. The one error is want of memory, which stands for want of numbers.
+/// A count as a number of 32 bits. The only error is out of memory, also if the count needs more.
 pub(crate) fn number_of(count: usize) -> Result<u32, AllocError>
     ensures { IfOk result (λ number. number ≡ count) }
 {
@@ -136,7 +136,7 @@ pub(crate) fn number_of(count: usize) -> Result<u32, AllocError>
     }
 }
 
-/// A statement is put behind those. The one error is want of memory.
+/// Appends a statement. The only error is out of memory.
 pub fn put(stmts: &mut Vec<Stmt>, stmt: Stmt) -> Result<(), AllocError>
     ensures { OnOk result
         (map tree_of_stmt stmts.new.items

@@ -1,4 +1,4 @@
--- Runs that are called good by being listed.
+-- Runs that are good because they are listed.
 
 use Rattle.std.specs.Prelude.{ℕ, nat_eq, Bool, true, false, ◌&&◌, List, [], ◌∷◌}
 use Rattle.std.specs.Ordering.{int_eq}
@@ -26,5 +26,6 @@ same_run (c ∷ cs) (d ∷ ds) = same_choice c d && same_run cs ds
 abbrev pub is_listed : List ℕ → List Choice → GoodRun → Bool
 is_listed groups run good = pointwise nat_eq good.groups groups && same_run good.run run
 
+-- the run was added as good for these groups
 abbrev pub are_listed : List GoodRun → List ℕ → List Choice → Bool
 are_listed runs groups run = list_any (is_listed groups run) runs

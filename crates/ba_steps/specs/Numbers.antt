@@ -4,6 +4,7 @@ use Rattle.std.specs.Prelude.{ℕ, Option, None, Some}
 use Rattle.ba_steps.specs.declared.step.StepError.{StepError}
 use Rattle.ba_steps.specs.declared.step.StepError.TheVariants.{HintMissing, HintNotUnit, NotClosed, NotSofts, DeadClause, RunNotGood, SetTwice, WrongWeight, AfterEnd, NotNew, TooSoon, CoreAfterSet, WrongCount, BadVariable, Memory}
 
+-- the number of an error; None out of memory
 abbrev pub number_of : StepError → Option ℕ
 number_of HintMissing = Some 1
 number_of HintNotUnit = Some 2

@@ -33,30 +33,36 @@ MayAddStep step [] (log ∷ logs) = ⊥
 MayAddStep step (log ∷ logs) [] = ⊥
 MayAddStep step (old ∷ olds) (new ∷ news) = MayAdd step old new × MayAddStep step olds news
 
--- what a refusal leaves of two sinks that are told an item in turn: the second was not told, or the first has it
+-- what a refusal leaves of two sinks told one after the other: the second was not told, or the first has the
+-- item
 abbrev pub StopsInTurn : {X : Type 0} →
     X → Option (List X) → Option (List X) → Option (List X) → Option (List X) → Type 0
 StopsInTurn x first first' second second' =
     (MayAdd x first first' × (second' ≡ second)) ⊎ ((first' ≡ with_told x first) × MayAdd x second second')
 
--- what a refusal leaves of two sinks that are asked in turn: the second was not asked, or the first has the step
+-- what a refusal leaves of two sinks that are asked one after the other: the second was not asked, or the
+-- first has the step
 abbrev pub RefusesInTurn : CertStep → Logs → Logs → Logs → Logs → Type 0
 RefusesInTurn step first first' second second' =
     (MayAddStep step first first' × (second' ≡ second))
     ⊎ ((first' ≡ with_step step first) × MayAddStep step second second')
 
+-- a formula with its soft literals
 abbrev pub basis : Cnf → List Soft → Basis
 basis formula softs = record { formula = formula; softs = softs }
 
--- WHAT A SINK TELLS at one moment: its formulas with their soft literals, where they are told; its logs; how often
--- what it writes to has failed; and the references through which it writes
+-- WHAT A SINK TELLS at one moment:
+-- - its formulas with their soft literals, if they are told
+-- - its logs
+-- - how often what it writes to has failed
+-- - the references through which it writes
 pub record Told : Type 0 where
   pub over : Option (List Basis)
   pub logs : Logs
   pub faults : ℕ
   pub references : List GName
 
--- what it writes to failed meanwhile
+-- what the sink writes to failed meanwhile
 abbrev pub HasFault : Told → Told → Type 0
 HasFault old new = Rose old.faults new.faults
 
@@ -65,7 +71,7 @@ pub record Outlasts (old new : Told) : Type 0 where
   pub no_fall : old.faults ≤ new.faults
   pub same_references : new.references ≡ old.references
 
--- a formula is begun: a refusal may leave it told, and comes as a failure only where the faults rose
+-- A formula is begun. A refusal may leave it told, and is a failure only if the faults rose.
 pub record Begins (begun : Basis) (result : Result Unit SinkError) (old new : Told) : Type 0 where
   pub told : OnOk result (new.over ≡ with_told begun old.over)
   pub refused : OnErr result (MayAdd begun old.over new.over)
@@ -73,7 +79,7 @@ pub record Begins (begun : Basis) (result : Result Unit SinkError) (old new : To
   pub cause : result ≡ Err Failed → HasFault old new
   pub outlasts : Outlasts old new
 
--- a step is taken: a refusal may leave it in some of the logs, and comes as a failure only where the faults rose
+-- A step is taken. A refusal may leave it in some of the logs, and is a failure only if the faults rose.
 pub record Takes (step : CertStep) (result : Result Unit SinkError) (old new : Told) : Type 0 where
   pub told : OnOk result (new.logs ≡ with_step step old.logs)
   pub refused : OnErr result (MayAddStep step old.logs new.logs)
@@ -85,7 +91,8 @@ pub record Takes (step : CertStep) (result : Result Unit SinkError) (old new : T
 abbrev pub untold : Told
 untold = record { over = None; logs = []; faults = 0; references = [] }
 
--- what two sinks tell, of which the second is behind a reference: the formulas of the second, the logs of both
+-- what two sinks tell, the second of which is behind a reference: the formulas of the second, the logs of
+-- both
 abbrev pub told_by_both : GName → Told → Told → Told
 told_by_both name first second = record {
   over = second.over;

@@ -1,4 +1,4 @@
--- Which steps have the form that their text asks for.
+-- Steps that have the form of their text.
 
 use Rattle.std.specs.Prelude.{ℕ, ◌-◌, ◌^◌, ◌<◌, ◌≤◌, ℤ, pos, neg_ℤ, ◌≤ℤ◌, List, [], ◌∷◌, length, All}
 use Rattle.ba_choices.specs.declared.Choice.{Choice}
@@ -24,10 +24,12 @@ AreFormedLits lits = IsClause (2 ^ 62 - 1) lits × (0 < length lits)
 abbrev pub IsValue : ℤ → Type 0
 IsValue z = (neg_ℤ (pos (2 ^ 62 - 1)) ≤ℤ z) × (z ≤ℤ pos (2 ^ 62 - 1))
 
+-- each value of a choice is at most 2^62 - 1 in magnitude
 abbrev pub IsFormedChoice : Choice → Type 0
 IsFormedChoice Keep = Unit {0}
 IsFormedChoice (Take values) = All IsValue values
 
+-- a step has the form that its type keeps: numbers from 1 on, lists that ascend
 abbrev pub IsFormed : CertStep → Type 0
 IsFormed (Learn lits hints) = AreFormedLits lits × AreNumbers hints
 IsFormed (Core lits hints) = AreFormedLits lits × AreNumbers hints

@@ -1,8 +1,8 @@
-//! The steps of derivations, who says which runs are good, and where steps go.
+//! The proof format in memory: steps of derivations, errors of steps, sinks of steps and judges of runs.
 //!
-//! A derivation starts from a formula in conjunctive normal form with weighted soft literals. Each step adds a
-//! clause, deletes learnt clauses, or ends the derivation; a [`StepError`] says why one isn't allowed. A [`StepSink`]
-//! takes formulas and steps, and a [`RunJudge`] says which runs are good.
+//! A derivation starts from a formula in conjunctive normal form with weighted soft literals. Each step adds
+//! a clause, deletes learnt clauses, or ends the derivation. A [`StepError`] says why a step isn't allowed. A
+//! [`StepSink`] takes formulas and steps, and a [`RunJudge`] tells which runs are good.
 #![tactic(auto)]
 
 mod judge;

@@ -42,7 +42,7 @@ impl Model for ListJudge {
 }
 
 impl ListJudge {
-    /// A judge to whom no run is good. It takes no memory.
+    /// A judge for whom no run is good. It takes no memory.
     pub fn new(alloc: Global) -> ListJudge
         ensures { result ≡ [] }
     {
@@ -53,7 +53,7 @@ impl ListJudge {
 
     /// Makes a run good for groups.
     ///
-    /// The one error is want of memory, which leaves the judge as it was.
+    /// The only error is out of memory, which leaves the judge as it was.
     pub fn add(&mut self, good: GoodRun) -> Result<(), AllocError>
         ensures ok { OnOk result (self.new ≡ self.old ++ good ∷ []) }
         ensures err { OnErr result (self.new ≡ self.old) }
@@ -72,6 +72,7 @@ impl RunJudge for ListJudge {
     }
 }
 
+/// Whether both are the same choice.
 fn same_choice(choice: &Choice, other: &Choice) -> bool
     ensures { result ≡ same_choice choice.now other.now }
 {
@@ -82,6 +83,7 @@ fn same_choice(choice: &Choice, other: &Choice) -> bool
     }
 }
 
+/// Whether both runs have the same choices.
 fn same_run(run: &[Choice], other: &[Choice]) -> bool
     ensures { result ≡ same_run run.now other.now }
 {
@@ -100,12 +102,14 @@ fn same_run(run: &[Choice], other: &[Choice]) -> bool
     right.is_empty()
 }
 
+/// Whether the good run is of these groups and has these choices.
 fn is_listed(groups: &[u32], run: &[Choice], good: &GoodRun) -> bool
     ensures { result ≡ is_listed groups.now run.now good.now }
 {
     good.groups.as_slice() == groups && same_run(good.run.as_slice(), run)
 }
 
+/// Whether the run was added as good for these groups.
 fn are_listed(runs: &[GoodRun], groups: &[u32], run: &[Choice]) -> bool
     ensures { result ≡ are_listed runs.now groups.now run.now }
 {

@@ -1,4 +1,4 @@
-//! Where the steps of a derivation go.
+//! Sinks of steps.
 
 ghost use Rattle.std.specs.Prelude.{◌≡◌, ◌≢◌, ◌∷◌, ◌++◌, [], Ok, Err, OnOk, OnErr};
 ghost use Rattle.ba_lits.specs.Satisfaction.{Soft};
@@ -20,7 +20,7 @@ pub enum SinkError {
     /// What the sink writes to failed.
     #[error("the sink failed")]
     Failed,
-    /// There was no memory.
+    /// Out of memory.
     #[error("out of memory")]
     Memory,
 }
@@ -62,12 +62,12 @@ impl Drop for Basis {
     }
 }
 
-/// A sink takes formulas, and then steps.
+/// A sink takes formulas, and after each formula steps over it.
 pub trait StepSink {
-    // What it tells.
+    // What the sink tells.
     ghost told: { Self → Told };
 
-    /// Steps over this formula and these soft literals follow. A refusal may leave them told.
+    /// Begins a formula with its soft literals; steps over it follow. A refusal may leave them told.
     fn begin(&mut self, formula: &Formula, softs: &[(Lit, u32)]) -> Result<(), SinkError>
         ensures { Begins (basis formula.now softs.now) result (told self.old) (told self.new) };
 
@@ -175,8 +175,8 @@ impl StepSink for ListSink {
     }
 }
 
-/// A sink that hands each formula and step to `first`, and then to `second`. It tells the formulas that `second`
-/// tells, and its logs are those of `first` and then those of `second`.
+/// A sink that hands each formula and step to `first`, and then to `second`. It tells the formulas of
+/// `second`. Its logs are those of `first`, followed by those of `second`.
 #[derive(Drop)]
 pub struct Both<'a, A, D> {
     pub first: A,

@@ -9,10 +9,10 @@ use ba_lits::Lit;
 use std::alloc::{AllocError, AllocFailed, Global};
 use thiserror::Error;
 
-/// A step of a derivation. The literals of a step have strictly ascending variables and, but in `EndLocated`, are at
-/// least one; numbers of clauses are at least 1; all numbers are below 2^62, values without their signs.
+/// A step of a derivation. Its literals have strictly ascending variables and, except in `EndLocated`, are at
+/// least one. Numbers of clauses are at least 1. All numbers are below 2^62, values without their signs.
 pub enum CertStep {
-    /// The clause follows by the hints, numbers of live clauses, and is live from now on.
+    /// The clause follows by the hints, which are numbers of live clauses. It is live from now on.
     Learn {
         lits: Items<Lit>,
         hints: Items<u64>,
@@ -22,30 +22,31 @@ pub enum CertStep {
         lits: Items<Lit>,
         hints: Items<u64>,
     },
-    /// The clauses of these numbers, strictly ascending and at least one, are no longer live. They were made by Learn
-    /// steps and have at least three literals.
+    /// The clauses of these numbers, strictly ascending and at least one, are no longer live. Learn steps
+    /// made them, and they have at least three literals.
     Delete {
         clauses: Items<u64>,
     },
-    /// The set is blocked: the clause that one of its groups' selectors is true is live from now on. Groups are numbered from
-    /// 1, strictly ascending and at least one. Their weights make the bound, and the run is good where they are relaxed.
+    /// The set is blocked: a clause that one of its groups' selectors is true is live from now on. Groups
+    /// have numbers from 1, strictly ascending and at least one. The sum of their weights is the bound, and
+    /// the run is good if they are relaxed.
     Block {
         groups: Items<u32>,
         run: Items<Choice>,
     },
-    /// The clause follows by the hints and negates soft literals alone, so no further set is of weight bound: the blocked
-    /// sets are all of them. It ends the derivation.
+    /// The clause follows by the hints and negates soft literals alone. So no further set has the weight of
+    /// the bound, and the blocked sets are all. The derivation ends.
     EndLocated {
         lits: Items<Lit>,
         hints: Items<u64>,
     },
-    /// The empty clause follows by the hints, so the formula has no model. It ends the derivation.
+    /// The empty clause follows by the hints, so the formula has no model. The derivation ends.
     EndNoRepair {
         hints: Items<u64>,
     },
-    /// There are more least sets than there may be: one more is blocked. It ends the derivation.
+    /// There are more least sets than allowed: one more is blocked. The derivation ends.
     EndTooMany,
-    /// The stated number of conflicts is spent. It ends the derivation.
+    /// The stated number of conflicts is spent. The derivation ends.
     EndSpent,
 }
 
@@ -95,14 +96,14 @@ impl TryClone for CertStep {
     }
 }
 
-/// Why a step isn't allowed, with the number that each error has in messages. Where several hold of one step, the
+/// Why a step isn't allowed, with the number of the error in messages. If a step has several errors, the
 /// first in the order of the tests is answered.
 #[derive(Clone, Copy, Debug, PartialEq, Eq, Error)]
 pub enum StepError {
-    /// 1: a hint is the number of no live clause.
+    /// 1: no live clause has the number of a hint.
     #[error("1: a hint names no clause")]
     HintMissing,
-    /// 2: the clause of a hint is neither unit nor, at the last place, false.
+    /// 2: the clause of a hint is neither unit nor, as the last one, false.
     #[error("2: a hint's clause is neither unit nor, as the last, false")]
     HintNotUnit,
     /// 3: the hints end without a false clause.
@@ -132,22 +133,22 @@ pub enum StepError {
     /// 11: too few clauses were learnt since the last deletion.
     #[error("11: too soon after the last deletion")]
     TooSoon,
-    /// 12: a set is blocked, so no core may come.
+    /// 12: a core may not follow a blocked set.
     #[error("12: a core after a blocked set")]
     CoreAfterSet,
-    /// 13: the number of conflicts or of sets isn't one at which the step may come.
+    /// 13: the step may not come with this number of conflicts or sets.
     #[error("13: wrong number of conflicts or sets")]
     WrongCount,
     /// 14: a variable or group doesn't exist.
     #[error("14: a variable or group doesn't exist")]
     BadVariable,
-    /// There was no memory.
+    /// Out of memory.
     #[error("out of memory")]
     Memory,
 }
 
 impl StepError {
-    /// The number of the error, from 1 to 14. Want of memory has none.
+    /// The number of the error, from 1 to 14. `Memory` has none.
     pub fn number(self) -> Option<u8>
         ensures { result ≡ number_of self }
     {

@@ -9,6 +9,7 @@ use Rattle.ba_choices.specs.declared.Choice.TheVariants.{Keep, Take}
 abbrev pub after_space : List ℕ → List ℕ
 after_space part = 32 ∷ part
 
+-- the parts, each after a space
 abbrev pub spaced : List (List ℕ) → List ℕ
 spaced parts = flat_map after_space parts
 

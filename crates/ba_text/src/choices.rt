@@ -33,10 +33,9 @@ fn push_choice(choice: &Choice, text: &mut Vec<u8>) -> Result<(), AllocError>
     }
 }
 
-/// Adds the choices: a space and `k` for one that keeps its statement, and a space, `t` and a space
-/// before each value for one that takes values.
+/// Appends the choices. `Keep` is a space and `k`; `Take` is a space and `t`, and a space before each value.
 ///
-/// The one error is want of memory.
+/// The only error is out of memory.
 pub fn push_choices(choices: &[Choice], text: &mut Vec<u8>) -> Result<(), AllocError>
     ensures { OnOk result (text.new.items ≡ text.old.items ++ choices_text choices.now) }
 {

@@ -1,4 +1,4 @@
-//! Numbers and choices as text.
+//! Printing of numbers and choices, for reports and certificates.
 #![tactic(auto)]
 
 mod choices;

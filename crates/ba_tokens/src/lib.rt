@@ -1,4 +1,4 @@
-//! The tokens of a C program (C90 6.1): what the lexer makes, and what the grammar and the typing of a program read.
+//! The tokens of a C program (C90 6.1), as types: the lexer makes them, parser and type checker read them.
 #![tactic(auto)]
 
 pub mod token;

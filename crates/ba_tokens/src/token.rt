@@ -8,8 +8,8 @@ use std::alloc::{AllocError, Global};
 use std::marker::Model;
 use std::rc::Rc;
 
-/// A name of the program. It owns its bytes, and its copies share them. Contracts see the list of the bytes and
-/// nothing else.
+/// A name of the program. It owns its bytes, and its copies share them. A contract sees the list of the bytes
+/// and nothing else.
 #[derive(Debug)]
 pub struct Name {
     bytes: Rc<Vec<u8>>,
@@ -30,11 +30,9 @@ impl Model for Name {
 }
 
 impl Name {
-    /// The name of these bytes, copied once.
+    /// The name of these bytes, which are copied.
     ///
-    /// # Errors
-    ///
-    /// Want of memory alone.
+    /// The only error is out of memory.
     pub fn new(alloc: Global, bytes: &[u8]) -> Result<Name, AllocError>
         ensures { IfOk result (λ name. name ≡ bytes.now) }
     {
@@ -50,11 +48,9 @@ impl Name {
         self.bytes.as_slice()
     }
 
-    /// The same name again, of the same bytes in memory.
+    /// Another copy of the name, which shares its bytes.
     ///
-    /// # Errors
-    ///
-    /// Want of memory alone, where there are as many copies as can be counted.
+    /// The only error is out of memory, also if no more copies can be counted.
     pub fn copy(&self) -> Result<Name, AllocError>
         ensures { IfOk result (λ name. name ≡ self.now) }
     {
@@ -85,7 +81,7 @@ impl Eq for Name {
     ghost laws = { Prim.search (comparing, rules) };
 }
 
-/// A keyword of the profile, by its own spelling (C90 6.1.1); `assert` and `printf` are among them.
+/// A keyword of the profile, named by its spelling (C90 6.1.1). `assert` and `printf` are among them.
 #[derive(Clone, Copy, Debug, PartialEq, Eq)]
 pub enum Keyword {
     Char,
@@ -238,11 +234,9 @@ impl Drop for TokenKind {
 }
 
 impl TokenKind {
-    /// The same kind of token again. A name's bytes are not copied.
+    /// Another copy of the kind. The copy shares the bytes of a name.
     ///
-    /// # Errors
-    ///
-    /// Want of memory alone, where there are as many copies of a name as can be counted.
+    /// The only error is out of memory, also if no more copies of a name can be counted.
     pub fn copy(&self) -> Result<TokenKind, AllocError>
         ensures { IfOk result (λ kind. kind ≡ self.now) }
     {
@@ -259,7 +253,7 @@ impl TokenKind {
     }
 }
 
-/// A token, and the position of its first byte; one that comes from a macro has the position of the macro's use.
+/// A token with the position of its first byte. A token from a macro has the position of the macro's use.
 #[derive(Debug, PartialEq, Eq)]
 pub struct Token {
     pub kind: TokenKind,
@@ -273,11 +267,9 @@ impl Drop for Token {
 }
 
 impl Token {
-    /// The same token again. A name's bytes are not copied.
+    /// Another copy of the token. The copy shares the bytes of a name.
     ///
-    /// # Errors
-    ///
-    /// Want of memory alone, where there are as many copies of a name as can be counted.
+    /// The only error is out of memory, also if no more copies of a name can be counted.
     pub fn copy(&self) -> Result<Token, AllocError>
         ensures { IfOk result (λ token. token ≡ self.now) }
     {

@@ -1,4 +1,4 @@
--- Elements that begin with given values, and are 0 behind them.
+-- Elements that begin with given values, and are 0 after them.
 
 use Rattle.std.proofs.Common.{◌≡◌, ℕ, ℤ, pos, List, ◌++◌, length, replicate, arith}
 use Rattle.std.proofs.lemmas.List.{length-append, length-replicate, length-take-le}

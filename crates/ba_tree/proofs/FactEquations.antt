@@ -122,7 +122,7 @@ module _ (p : Parts) (a : Arg) where
 
 -- STATEMENTS
 
--- what stands behind `else`
+-- what follows `else`
 abbrev pub otherwise_facts : Parts → Function → Option (Box Stmt) → List StmtFacts
 otherwise_facts p f Option.None = []
 otherwise_facts p f (Option.Some part) = stmt_facts p f part.value ∷ []

@@ -20,7 +20,7 @@ use Rattle.ba_numbers.specs.declared.numbers.CType.{CType}
 use Rattle.ba_numbers.specs.declared.numbers.CType.TheVariants.{I8, U8, I16, U16, I32, U32}
 use Rattle.ba_tree.specs.Inputs.{NotANumber, WrongCount, OutOfRange, first_where, input_types, is_no_number, is_outside, numbers_for, numbers_of, types_for, values_for, IsInputOf}
 
--- THE NEAREST NUMBER OF 64 BITS is in a type exactly where the number is, and is then the number
+-- THE NEAREST NUMBER OF 64 BITS is in a type exactly if the number is, and is then the number
 
 min_same : (n m : ℕ) → n ≤ m → min n m ≡ n
 min_same n m h = omega arith
@@ -55,7 +55,7 @@ nearest-is_in U32 (negsuc n) h = ap negsuc (grind (arith, nat_tests, h))
 
 -- THE PIECES of a text
 
--- where each piece is a number, there are as many numbers
+-- if each piece is a number, there are as many numbers
 pub length-numbers_of : (i : ℕ) (pieces : List (List ℕ)) → position_from is_no_number i pieces ≡ None
     → length (numbers_of pieces) ≡ length pieces
 length-numbers_of i [] none = refl
@@ -96,7 +96,7 @@ first_outside-nearest i (t ∷ types) (z ∷ zs) =
     (is_in-nearest t z)
     ∙ ap (cond (not (is_in t z)) (Some i)) (first_outside-nearest (i + 1) types zs)
 
--- where none is outside, each is the nearest one itself
+-- if none is outside, each is the nearest one itself
 pub nearest-inside : (i : ℕ) (types : List CType) (zs : List ℤ) → length zs ≡ length types
     → position_from is_outside i (zip types zs) ≡ None → map nearest zs ≡ zs
 nearest-inside i types [] same none = refl
@@ -112,7 +112,7 @@ nearest-inside i (t ∷ types) (z ∷ zs) same none = by (is_in t z) refl none (
         (others none)
     by false is none others = cc
 
--- THE INPUT FITS the parameters, where each has values of its own
+-- THE INPUT FITS the parameters, if each has values of its own
 
 abbrev inside : CType × ℤ → Bool
 inside (t, z) = is_in t z
@@ -128,7 +128,7 @@ all-inside i ((t, z) ∷ items) none = by (is_in t z) none (all-inside (i + 1) i
     by true none others = others none
     by false none others = cc
 
--- the numbers of one type that come first, and those behind them
+-- the numbers of one type that come first, and those after them
 front-inside : (t : CType) (n : ℕ) (types : List CType) (zs : List ℤ) → list_all inside (zip (replicate n t
     ++ types) zs) ≡ true
     → (list_all (is_in t) (take n zs) ≡ true) × (list_all inside (zip types (drop n zs)) ≡ true)

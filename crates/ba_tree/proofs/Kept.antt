@@ -85,7 +85,7 @@ within-limits p h =
     let c = both _ _ b.0 in
     record { statements = c.0; functions = c.1; variables = b.1; elements = a.1 }
 
--- numbers that stand once each
+-- numbers that occur once each
 pub record StandOnce (first count : ℕ) (ns : List ℕ) : Type 0 where
   pub differ : are_distinct ns ≡ true
   pub there : list_all (λ n. nat_le first n && nat_lt n (first + count)) ns ≡ true

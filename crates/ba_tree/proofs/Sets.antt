@@ -30,7 +30,7 @@ first_same x y xs ys x_first y_first (inr h) (inl e) = sym e
 first_same x y xs ys x_first y_first (inr h) (inr k) =
     absurd (IsBefore-asymmetric x y (before_each x y xs x_first k) (before_each y x ys y_first h))
 
--- what stands behind the first of one list stands behind the first of the other
+-- what follows the first of one list is after the first of the other
 rest_has : (x y : List ℕ) (xs ys : List (List ℕ)) (s : List ℕ) → x ≡ y → IsBeforeAll x xs → Has xs s → Has (y ∷ ys) s → Has ys s
 rest_has x y xs ys s e x_first h (inl is_y) =
     absurd (IsBefore-irreflexive x (before_each x x xs x_first (rw (e, ← is_y) h)))

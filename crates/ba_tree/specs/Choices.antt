@@ -21,14 +21,16 @@ use Rattle.ba_tree.specs.declared.tree.StmtInfo.{StmtInfo}
 use Rattle.ba_tree.specs.declared.tree.StmtKind.{StmtKind}
 use Rattle.ba_tree.specs.declared.tree.StmtKind.TheVariants.{Assert}
 
--- PLACES: a statement with the calls and turns around one execution of it
+-- PLACES: a statement with the calls and iterations around one execution of it
 
+-- both are the same call, or the same iteration of the same loop
 abbrev pub same_step : Step → Step → Bool
 same_step (Call c) (Call d) = c.0 == d.0
 same_step (Turn l m) (Turn k n) = (l.0 == k.0) && (m == n)
 same_step (Call c) (Turn l m) = false
 same_step (Turn l m) (Call c) = false
 
+-- both paths have the same steps
 abbrev pub same_path : List Step → List Step → Bool
 same_path [] [] = true
 same_path [] (y ∷ ys) = false
@@ -39,38 +41,44 @@ same_path (x ∷ xs) (y ∷ ys) = same_step x y && same_path xs ys
 abbrev pub is_there : List Step → StmtId → Place → Bool
 is_there path stmt place = (place.stmt.0 == stmt.0) && same_path place.path (reverse path)
 
+-- an execution of this statement, reached by this path, is of what may be relaxed
 abbrev pub lists : Allowed → List Step → StmtId → Bool
 lists (Statements list) path stmt = list_any (λ (n : StmtId). n.0 == stmt.0) list
 lists (Places list) path stmt = list_any (is_there path stmt) list
 
+-- the kind is that of an assert
 abbrev pub is_assert_kind : StmtKind → Bool
 is_assert_kind Assert = true
 is_assert_kind _ = false
 
+-- there is such a statement, and it is an assert
 abbrev pub is_assert_info : Option StmtInfo → Bool
 is_assert_info None = false
 is_assert_info (Some info) = is_assert_kind info.kind
 
--- what the program says of the statement of this number, counted from 1
+-- the entry of the program for the statement of this number, counted from 1
 abbrev pub info_of : Program → StmtId → Option StmtInfo
 info_of p stmt = cond (stmt.0 == 0) None (slice_get p.statements (stmt.0 - 1))
 
+-- the number is that of an assert of the program
 abbrev pub is_assert : Program → StmtId → Bool
 is_assert p stmt = is_assert_info (info_of p stmt)
 
--- an execution of a statement may be relaxed: it is listed, by its number or by its place, and no assert
+-- an execution of a statement may be relaxed: it is listed, by its number or by its place, and it is no
+-- assert
 unfoldable pub admits : Program → Allowed → List Step → StmtId → Bool
 admits p allowed path stmt = lists allowed path stmt && not (is_assert p stmt)
 
 -- CHOICES
 
--- At a relaxed place the first choice is used up. Keep gives None: the statement runs as written. Take gives the values that stand in
--- place of its expressions.
+-- At a relaxed place the first choice is used up. Keep gives None: the statement runs as written. Take gives
+-- the values that replace its expressions.
 abbrev pub next_choice : List Choice → Act (Option (List ℤ))
 next_choice [] s = (Err WrongChoices, s)
 next_choice (Keep ∷ choices) s = (Ok None, record s { choices = choices })
 next_choice (Take values ∷ choices) s = (Ok (Some values), record s { choices = choices })
 
+-- the next choice, which is used up, if the execution may be relaxed; else None
 abbrev pub choice_at : Bool → Act (Option (List ℤ))
 choice_at false s = (Ok None, s)
 choice_at true s = next_choice s.choices s
@@ -80,11 +88,12 @@ abbrev pub if_fitting : {A : Type 0} → Option A → Act A
 if_fitting None s = (Err WrongChoices, s)
 if_fitting (Some a) s = (Ok a, s)
 
--- as written, or what the values of the choice give where they fit; then nothing that is written is evaluated
+-- as written; or what the choice's values give if they fit, and nothing that is written is evaluated
 abbrev pub as_chosen : {A : Type 0} → (List ℤ → Option A) → Act A → Option (List ℤ) → Act A
 as_chosen fitting written None s = written s
 as_chosen fitting written (Some values) s = if_fitting (fitting values) s
 
+-- what the next choice gives, if the execution may be relaxed; else what is written
 abbrev pub value_by_choice : {A : Type 0} → Bool → (List ℤ → Option A) → Act A → Act A
 value_by_choice admitted fitting written s = then_do (choice_at admitted s) (as_chosen fitting written)
 

@@ -1,4 +1,5 @@
--- What each program keeps: the constraints of C (C90 6.1.2, 6.3, 6.5 to 6.7) and the limits that have been tested.
+-- What holds of each program: the constraints of C (C90 6.1.2, 6.3, 6.5 to 6.7) and the limits, as typing has
+-- tested them.
 
 use Rattle.std.specs.Prelude.{ℕ, ℤ, ◌+◌, ◌-◌, nat_le, nat_lt, Bool, true, false, not, ◌&&◌, ◌==◌, cond, max, Option, None, Some, option_map, option_and_then, unwrap_or, suc, List, [], ◌∷◌, ◌++◌, map, flat_map, length, slice_get, slice_index_or, sum_by}
 use Rattle.std.specs.Global.{Box}
@@ -33,33 +34,39 @@ use Rattle.ba_tree.specs.declared.tree.Variable.{Variable}
 
 -- LISTS
 
+-- no number comes twice
 abbrev pub are_distinct : List ℕ → Bool
 are_distinct [] = true
 are_distinct (n ∷ ns) = not (list_any (λ m. m == n) ns) && are_distinct ns
 
--- each of the `count` numbers from `first` on stands exactly once, and no other: they differ, lie there, and are as many
+-- each of the `count` numbers from `first` on occurs exactly once, and no other: all are in range, none
+-- repeats, and they are as many
 abbrev pub has_each_once : ℕ → ℕ → List ℕ → Bool
 has_each_once first count ns =
     are_distinct ns && list_all (λ n. nat_le first n && nat_lt n (first + count)) ns && (length ns == count)
 
+-- the greatest number, 0 of none
 abbrev pub greatest : List ℕ → ℕ
 greatest [] = 0
 greatest (n ∷ ns) = max n (greatest ns)
 
--- a test of what may be there: where nothing is, it fails
+-- an optional value is there and passes the test
 abbrev pub holds : {A : Type 0} → (A → Bool) → Option A → Bool
 holds test None = false
 holds test (Some a) = test a
 
+-- the variable is in the list
 abbrev pub has_variable : List VarId → VarId → Bool
 has_variable vs v = list_any (λ (w : VarId). w.0 == v.0) vs
 
 -- OPERATORS
 
--- a binary operator that works in the type t: the type of its right operand is t, or of a shift's count a promoted one
+-- a binary operator that works in the type t: its right operand has the type t; the count of a shift has any
+-- promoted type
 abbrev pub fits_right : BinOp → CType → CType → Bool
 fits_right op t right = cond (shifts op) (is_promoted right) (same_type right t)
 
+-- both are the same kind of statement
 abbrev pub same_kind : StmtKind → StmtKind → Bool
 same_kind kind.Initialiser kind.Initialiser = true
 same_kind kind.Assignment kind.Assignment = true
@@ -73,52 +80,57 @@ same_kind _ _ = false
 
 -- VARIABLES
 
+-- the shape is that of a single value
 abbrev pub is_value_shape : Shape → Bool
 is_value_shape Value = true
 is_value_shape _ = false
 
--- the shapes of an array of one's own and of an array parameter
+-- an array that owns its elements, and an array parameter
 abbrev pub is_array_shape : Shape → Bool
 is_array_shape Value = false
 is_array_shape _ = true
 
+-- the shape is that of an array that a call passes
 abbrev pub is_passed_shape : Shape → Bool
 is_passed_shape Passed = true
 is_passed_shape _ = false
 
--- how many elements a variable has of its own
+-- how many elements a variable owns
 abbrev pub own_elements : Shape → ℕ
 own_elements Value = 0
 own_elements (Array n) = n
 own_elements Passed = 0
 
--- one's own arrays have 1 to 256 elements
+-- an array that owns 1 to 256 elements
 abbrev pub is_own_array : Shape → Bool
 is_own_array (Array n) = true
 is_own_array _ = false
 
+-- an array has 1 to 256 elements
 abbrev pub is_array_length : Shape → Bool
 is_array_length (Array n) = nat_le 1 n && nat_le n 256
 is_array_length _ = true
 
+-- the shape of a variable, None if there is no such variable
 abbrev pub shape_at : Parts → VarId → Option Shape
 shape_at p v = option_map (λ (w : Variable). w.shape) (slice_get p.variables v.0)
 
+-- the type of a variable or of the elements of an array; I32 if there is no such variable
 abbrev pub type_at : Parts → VarId → CType
 type_at p v = (slice_index_or p.variables v.0 (record { t = I32; shape = Value })).t
 
--- the variable is there, and of one value
+-- the variable is declared and has one value
 abbrev pub is_value : Parts → VarId → Bool
 is_value p v = holds is_value_shape (shape_at p v)
 
--- the variable is there, and an array or an array parameter
+-- the variable is declared, and an array or an array parameter
 abbrev pub is_array : Parts → VarId → Bool
 is_array p v = holds is_array_shape (shape_at p v)
 
 -- EXPRESSIONS (C90 6.3)
 
--- What there is to say of an expression: its type; its height, where conversions add nothing; the variables that it names and the
--- calls in it; and that each part of it meets the constraints.
+-- What is said of an expression: its type, its height without conversions, the variables that it names, and
+-- its calls. It also says that each part meets the constraints.
 pub record ExprFacts : Type 0 where
   pub t : CType
   pub height : ℕ
@@ -126,15 +138,17 @@ pub record ExprFacts : Type 0 where
   pub calls : List CallId
   pub is_sound : Bool
 
--- of an argument: the array that it gives, None for a value, and what there is to say of it as an expression
+-- what is said of an argument: the array that it gives, None for a value, and the facts of it as an
+-- expression
 pub record ArgFacts : Type 0 where
   pub array : Option VarId
   pub given : ExprFacts
 
+-- all these expressions are sound
 abbrev pub are_sound : List ExprFacts → Bool
 are_sound = list_all (λ (e : ExprFacts). e.is_sound)
 
--- an operator over these operands, which has this type, and whose constraint is said beside
+-- an operator of this type over these operands; the flag is its own constraint
 abbrev pub operator_facts : CType → List ExprFacts → Bool → ExprFacts
 operator_facts t operands meets = record {
   t = t;
@@ -144,12 +158,15 @@ operator_facts t operands meets = record {
   is_sound = meets && are_sound operands;
 }
 
+-- the facts of an expression that names this variable too
 abbrev pub with_variable : VarId → ExprFacts → ExprFacts
 with_variable v e = record e { variables = v ∷ e.variables }
 
+-- the facts of an expression that makes this call too
 abbrev pub with_call : CallId → ExprFacts → ExprFacts
 with_call c e = record e { calls = c ∷ e.calls }
 
+-- the facts of an argument, by those of the expression in it
 abbrev pub arg_facts_step : Parts → Arg-F ArgFacts ExprFacts → ArgFacts
 arg_facts_step p (Arg-F.Value value) = record { array = None; given = value }
 arg_facts_step p (Arg-F.Array array) = record {
@@ -164,23 +181,27 @@ abbrev pub fits_parameter : Parts → VarId → ArgFacts → Bool
 fits_parameter p v arg = same_type arg.given.t (type_at p v)
     && holds (cond (is_some arg.array) is_passed_shape is_value_shape) (shape_at p v)
 
+-- there is one argument for each parameter, and each fits it
 abbrev pub fits_parameters : Parts → List VarId → List ArgFacts → Bool
 fits_parameters p [] [] = true
 fits_parameters p [] (arg ∷ args) = false
 fits_parameters p (v ∷ vs) [] = false
 fits_parameters p (v ∷ vs) (arg ∷ args) = fits_parameter p v arg && fits_parameters p vs args
 
--- a function that is there and not main, with arguments that fit its parameters in number, shape and type
+-- a declared function other than main, with arguments that fit its parameters in number, shape and type
 abbrev pub is_call : Parts → FnId → List ArgFacts → Bool
 is_call p f args = not (f.0 == p.main.0)
     && holds (λ (g : Function). fits_parameters p g.params args) (slice_get p.functions f.0)
 
+-- the type that a function returns, None if it returns nothing or does not exist
 abbrev pub result_at : Parts → FnId → Option CType
 result_at p f = option_and_then (λ (g : Function). g.result) (slice_get p.functions f.0)
 
+-- the facts of the expressions in arguments
 abbrev pub givens : List ArgFacts → List ExprFacts
 givens = map (λ (arg : ArgFacts). arg.given)
 
+-- the facts of an expression, by those of its parts
 abbrev pub expr_facts_step : Parts → Expr-F ArgFacts ExprFacts → ExprFacts
 expr_facts_step p (Expr-F.Const t value) = operator_facts t [] (is_in t value)
 expr_facts_step p (Expr-F.Var var) = with_variable var (operator_facts (type_at p var) [] (is_value p var))
@@ -199,18 +220,24 @@ expr_facts_step p (Expr-F.Call call function args) = with_call call
     (operator_facts (unwrap_or (result_at p function) I32) (givens args.items)
     (is_call p function args.items && is_some (result_at p function)))
 
+-- the facts of an expression
 unfoldable pub expr_facts : Parts → Expr → ExprFacts
 expr_facts p = fold-Expr ArgFacts ExprFacts (arg_facts_step p) (expr_facts_step p)
 
+-- the facts of an argument
 unfoldable pub arg_facts : Parts → Arg → ArgFacts
 arg_facts p = fold-Arg ArgFacts ExprFacts (arg_facts_step p) (expr_facts_step p)
 
 -- STATEMENTS (C90 6.6)
 
--- What there is to say of a statement: how deep statements nest in it; the numbers in it, with the kind of each statement; the
--- variables that it names and the calls in it; the variable that it initialises, where it is an initialiser; that it may stand in the
--- head of a `for`; that a `break` in it belongs to a loop or `switch` around it, and a `continue` to a loop around it; and that each
--- part of it meets the constraints.
+-- What is said of a statement:
+-- - how deep statements nest in it
+-- - the statement numbers in it, each with its kind
+-- - the variables that it names, and its calls
+-- - the variable that it initialises, if it is an initialiser
+-- - whether it may be in the head of a `for`
+-- - whether each `break` in it has a loop or `switch` around it, and each `continue` a loop
+-- - that each part of it meets the constraints
 pub record StmtFacts : Type 0 where
   pub depth : ℕ
   pub numbers : List (StmtId × StmtKind)
@@ -222,7 +249,7 @@ pub record StmtFacts : Type 0 where
   pub continues : Bool
   pub is_sound : Bool
 
--- an expression that is no part of another: within the limit on heights
+-- a whole expression, which is within the limit on heights
 abbrev pub is_whole : ExprFacts → Bool
 is_whole e = e.is_sound && nat_le e.height 100
 
@@ -230,7 +257,7 @@ is_whole e = e.is_sound && nat_le e.height 100
 abbrev pub fits_type : CType → ExprFacts → Bool
 fits_type t e = same_type e.t t
 
--- a statement of these expressions, which holds no other statement; its constraint is said beside
+-- a statement of these expressions that holds no other statement; the flag is its own constraint
 abbrev pub leaf_facts : List (StmtId × StmtKind) → List ExprFacts → Bool → StmtFacts
 leaf_facts numbers es meets = record {
   depth = 1;
@@ -244,7 +271,7 @@ leaf_facts numbers es meets = record {
   is_sound = meets && list_all is_whole es;
 }
 
--- a statement that holds these others behind its own parts
+-- a statement that holds these others after its own parts
 abbrev pub around : StmtFacts → List StmtFacts → StmtFacts
 around own parts = record own {
   depth = 1 + greatest (map (λ (s : StmtFacts). s.depth) parts);
@@ -264,6 +291,7 @@ as_loop s = record s { breaks = false; continues = false }
 abbrev pub as_switch : StmtFacts → StmtFacts
 as_switch s = record s { breaks = false }
 
+-- the facts of a statement that is simple (C90 6.6.3), so may stand in the head of a `for`
 abbrev pub as_simple : StmtFacts → StmtFacts
 as_simple s = record s { is_simple = true }
 
@@ -271,31 +299,35 @@ as_simple s = record s { is_simple = true }
 abbrev pub naming : VarId → StmtFacts → StmtFacts
 naming v s = as_simple (record s { variables = v ∷ s.variables })
 
+-- the facts of a statement that initialises this variable, and names it
 abbrev pub initialising : VarId → StmtFacts → StmtFacts
 initialising v s = record (naming v s) { initialises = Some v }
 
--- a call as a statement
+-- a call statement
 abbrev pub calling : CallId → StmtFacts → StmtFacts
 calling c s = as_simple (record s { calls = c ∷ s.calls })
 
+-- the list of one numbered statement
 abbrev pub numbered : StmtId → StmtKind → List (StmtId × StmtKind)
 numbered stmt k = (stmt, k) ∷ []
 
+-- the facts of an `else` branch, if there is one
 abbrev pub optional_facts : Option (Box StmtFacts) → List StmtFacts
 optional_facts None = []
 optional_facts (Some s) = s.value ∷ []
 
--- the values are no more than the elements
+-- there are at most as many values as elements
 abbrev pub fits_array : Parts → VarId → List ExprFacts → Bool
 fits_array p array values = nat_le (length values) (own_elements (unwrap_or (shape_at p array) Value))
     && list_all (fits_type (type_at p array)) values
 
--- a `for` may begin and go on with declarations, initialisers, assignments, stores and calls
+-- the parts of a `for` head: declarations, initialisers, assignments, stores and calls
 abbrev pub are_simple : List StmtFacts → Bool
 are_simple = list_all (λ (s : StmtFacts). s.is_simple)
 
 -- LABELS (C90 6.6.4.2)
 
+-- no value comes twice
 abbrev pub values_differ : List ℤ → Bool
 values_differ [] = true
 values_differ (z ∷ zs) = not (list_any (λ y. int_eq y z) zs) && values_differ zs
@@ -309,7 +341,7 @@ abbrev pub are_labels : CType → ℕ → List Start → Option ℕ → Bool
 are_labels t count starts other = values_differ (map (λ (start : Start). start.value) starts)
     && list_all (is_start t count) starts && nat_le (unwrap_or other 0) count
 
--- of a statement in this function
+-- the facts of a statement in this function
 abbrev pub stmt_facts_step : Parts → Function → Stmt-F StmtFacts → StmtFacts
 stmt_facts_step p f (Stmt-F.Block body) = around (leaf_facts [] [] true) body.items
 stmt_facts_step p f (Stmt-F.Declare var) = naming var (leaf_facts [] [] (has_variable f.locals var))
@@ -344,6 +376,7 @@ stmt_facts_step p f (Stmt-F.CallStmt stmt call function args) = let es = map (ar
 stmt_facts_step p f (Stmt-F.Print stmt args) = leaf_facts (numbered stmt kind.Call) (map (expr_facts p) args.items) true
 stmt_facts_step p f (Stmt-F.Assert stmt when) = leaf_facts (numbered stmt kind.Assert) (expr_facts p when ∷ []) true
 
+-- the facts of a statement in the body of this function
 unfoldable pub stmt_facts : Parts → Function → Stmt → StmtFacts
 stmt_facts p f = fold-Stmt StmtFacts (stmt_facts_step p f)
 
@@ -353,16 +386,17 @@ stmt_facts p f = fold-Stmt StmtFacts (stmt_facts_step p f)
 abbrev pub body_facts : Parts → Function → StmtFacts
 body_facts p f = around (leaf_facts [] [] true) (map (stmt_facts p f) f.body)
 
--- main's array parameters are arrays of its own; those of other functions name the arrays that calls give
+-- main's array parameters own their elements; those of other functions name the arrays that calls give
 abbrev pub is_parameter_shape : Bool → Shape → Bool
 is_parameter_shape is_main Value = true
 is_parameter_shape is_main (Array n) = is_main
 is_parameter_shape is_main Passed = not is_main
 
+-- the variable is a value, or an array of its own
 abbrev pub is_own_shape : Shape → Bool
 is_own_shape shape = not (is_passed_shape shape)
 
--- statements nest at most 100 deep in the body, which is one more
+-- statements nest at most 100 deep in the body, which counts as one level
 abbrev pub is_function : Parts → Bool → Function → Bool
 is_function p is_main f = nat_le (length f.params) 32
     && list_all (λ v. holds (is_parameter_shape is_main) (shape_at p v)) f.params
@@ -378,28 +412,34 @@ are_functions p k (f ∷ fs) = is_function p (k == p.main.0) f && are_functions 
 
 -- GLOBALS (C90 6.5.7): an initialiser is constant
 
+-- a function without result, parameters and body, around the initialisers of globals
 abbrev pub no_function : Function
 no_function = record { result = None; params = []; locals = []; body = [] }
 
+-- the facts of the initialisers of globals
 abbrev pub init_facts : Parts → List StmtFacts
 init_facts p = map (stmt_facts p no_function) p.inits
 
+-- a statement initialises a global, and names no other variable and no call
 abbrev pub is_global_initialiser : Parts → StmtFacts → Bool
 is_global_initialiser p s = s.is_sound && holds (has_variable p.globals) s.initialises
     && (length s.variables == 1) && (length s.calls == 0)
 
 -- THE WHOLE PROGRAM
 
+-- a variable's array, if it has one, has 1 to 256 elements
 abbrev pub is_own_length : Variable → Bool
 is_own_length v = is_array_length v.shape
 
--- all its statements: those that initialise globals, and the functions' bodies
+-- all statements: those that initialise globals, and the functions' bodies
 abbrev pub all_facts : Parts → List StmtFacts
 all_facts p = init_facts p ++ map (body_facts p) p.functions
 
+-- the numbers of all statements, each with its kind, in the order of the tree
 abbrev pub all_numbers : Parts → List (StmtId × StmtKind)
 all_numbers p = flat_map (λ (s : StmtFacts). s.numbers) (all_facts p)
 
+-- the numbers of all calls, in the order of the tree
 abbrev pub all_calls : Parts → List CallId
 all_calls p = flat_map (λ (s : StmtFacts). s.calls) (all_facts p)
 
@@ -411,6 +451,7 @@ all_owned p = p.globals ++ flat_map (λ (f : Function). f.params ++ f.locals) p.
 abbrev pub has_kind : Parts → StmtId × StmtKind → Bool
 has_kind p (stmt, k) = holds (λ (info : StmtInfo). same_kind info.kind k) (slice_get p.statements (stmt.0 - 1))
 
+-- at most 4,000 statements, 100 functions and 2,000 variables, with 1,024 elements of arrays in all
 abbrev pub is_within_limits : Parts → Bool
 is_within_limits p = nat_le (length p.statements) 4000 && nat_le (length p.functions) 100
     && nat_le (length p.variables) 2000 && nat_le (sum_by (λ (v : Variable). own_elements v.shape) p.variables) 1024

@@ -1,4 +1,4 @@
--- Measures of expressions, statements and programs, by which what walks over them is seen to return.
+-- Measures of expressions, statements and programs, for the termination of what walks over them.
 
 use Rattle.std.specs.Prelude.{ℕ, ◌+◌, Option, None, Some, List, [], ◌∷◌, map, sum_by}
 use Rattle.std.specs.Global.{Box}
@@ -12,15 +12,17 @@ use Rattle.ba_tree.specs.declared.tree.Stmt.{Stmt}
 use Rattle.ba_tree.specs.declared.tree.Stmt.TheOpen.{Stmt-F}
 use Rattle.ba_tree.specs.declared.tree.Stmt.TheFolds.{fold-Stmt}
 
--- above the sum, by one for each
+-- the sum, and one more for each item
 abbrev pub total : List ℕ → ℕ
 total [] = 0
 total (n ∷ ns) = n + 1 + total ns
 
+-- the weight of an argument, by that of the expression in it
 abbrev pub arg_weight_step : Arg-F ℕ ℕ → ℕ
 arg_weight_step (Arg-F.Value value) = value + 2
 arg_weight_step (Arg-F.Array array) = 1
 
+-- the weight of an expression, by those of its parts
 abbrev pub weight_step : Expr-F ℕ ℕ → ℕ
 weight_step (Expr-F.Const t value) = 1
 weight_step (Expr-F.Var var) = 1
@@ -33,22 +35,28 @@ weight_step (Expr-F.Select t when a b) = when.value + a.value + b.value + 2
 weight_step (Expr-F.Convert t a) = a.value + 1
 weight_step (Expr-F.Call call function args) = total args.items + 4
 
+-- the weight of an expression, at least 1
 abbrev pub weight : Expr → ℕ
 weight = fold-Expr ℕ ℕ arg_weight_step weight_step
 
+-- the weight of an argument, at least 1
 abbrev pub arg_weight : Arg → ℕ
 arg_weight = fold-Arg ℕ ℕ arg_weight_step weight_step
 
+-- the `total` of the weights of expressions
 abbrev pub weights : List Expr → ℕ
 weights es = total (map weight es)
 
+-- the `total` of the weights of arguments
 abbrev pub arg_weights : List Arg → ℕ
 arg_weights args = total (map arg_weight args)
 
+-- the height of an `else` branch, 0 without one
 abbrev pub optional_height : Option (Box ℕ) → ℕ
 optional_height None = 0
 optional_height (Some n) = n.value
 
+-- the height of a statement, by those of its parts
 abbrev pub height_step : Stmt-F ℕ → ℕ
 height_step (Stmt-F.Block body) = total body.items + 2
 height_step (Stmt-F.Declare var) = 1
@@ -70,17 +78,19 @@ height_step (Stmt-F.CallStmt stmt call function args) = arg_weights args.items +
 height_step (Stmt-F.Print stmt args) = weights args.items + 4
 height_step (Stmt-F.Assert stmt when) = weight when + 1
 
+-- the height of a statement, at least 1
 abbrev pub height : Stmt → ℕ
 height = fold-Stmt ℕ height_step
 
+-- the `total` of the heights of statements
 abbrev pub heights : List Stmt → ℕ
 heights body = total (map height body)
 
--- of a statement that may be there
+-- the height of an optional statement
 abbrev pub optional_stmt_height : Option (Box Stmt) → ℕ
 optional_stmt_height None = 1
 optional_stmt_height (Some stmt) = height stmt.value + 1
 
--- above every body
+-- a number above the height of every body
 abbrev pub tallest : Program → ℕ
 tallest p = sum_by (λ (f : Function). heights f.body + 2) p.functions

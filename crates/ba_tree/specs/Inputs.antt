@@ -18,9 +18,8 @@ use Rattle.ba_tree.specs.declared.tree.Shape.{Shape}
 use Rattle.ba_tree.specs.declared.tree.Shape.TheVariants.{Value, Array, Passed}
 use Rattle.ba_tree.specs.declared.tree.Variable.{Variable}
 
--- why a text is no input of a program: the piece of this number, counted from 1, is no number, or one
--- outside its type; or there are
--- too few or too many
+-- why a text is no input: piece I, from 1, is no number; number I is outside its type; the count of numbers
+-- is wrong
 pub data InputFault : Type 0 where
   NotANumber : ℕ → InputFault
   WrongCount : InputFault
@@ -32,13 +31,15 @@ numbers_for Value = 1
 numbers_for (Array n) = n
 numbers_for Passed = 0
 
--- the types that its numbers have
+-- the types of these numbers
 abbrev pub number_types : Variable → List CType
 number_types v = replicate (numbers_for v.shape) v.t
 
+-- the types of the numbers that these parameters take, in order
 abbrev pub types_for : Program → List VarId → List CType
 types_for p = flat_map (λ v. number_types (variable_of p v))
 
+-- the types of the numbers that `main` takes, in order
 abbrev pub input_types : Program → List CType
 input_types p = types_for p (main_of p).params
 
@@ -46,26 +47,27 @@ input_types p = types_for p (main_of p).params
 abbrev pub first_where : {A : Type 0} → (A → Bool) → List A → Option ℕ
 first_where test = position_from test 1
 
+-- the piece is no decimal number
 abbrev pub is_no_number : List ℕ → Bool
 is_no_number piece = is_none (decimal_of piece)
 
--- the numbers of the pieces
+-- the numbers that pieces write
 abbrev pub numbers_of : List (List ℕ) → List ℤ
 numbers_of = filter_map decimal_of
 
--- a number beside the type that it must have
+-- a number is outside the type that it must have
 abbrev pub is_outside : CType × ℤ → Bool
 is_outside (t, z) = not (is_in t z)
 
--- The fault of a text: the first piece that is no number; else that they aren't as many as the types; else
--- the first number outside
--- its type.
+-- The fault of a text is the first piece that is no number. Else it is the count, if it is not that of the
+-- types. Else it is the first number outside its type.
 abbrev pub fault_of : List CType → List (List ℕ) → Option InputFault
 fault_of types pieces = option_or (option_map NotANumber (first_where is_no_number pieces))
     (if length pieces == length types
     then option_map OutOfRange (first_where is_outside (zip types (numbers_of pieces)))
     else Some WrongCount)
 
+-- the fault of a text as an input of the program, None if it is one
 abbrev pub input_fault : Program → List ℕ → Option InputFault
 input_fault p text = fault_of (input_types p) (pieces_of text)
 
@@ -75,6 +77,7 @@ values_for p [] zs = []
 values_for p (v ∷ vs) zs =
     let n = numbers_for (variable_of p v).shape in take n zs ∷ values_for p vs (drop n zs)
 
+-- the values of each parameter of `main`, as the text gives them
 abbrev pub input_values : Program → List ℕ → List (List ℤ)
 input_values p text = values_for p (main_of p).params (numbers_of (pieces_of text))
 

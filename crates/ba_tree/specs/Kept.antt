@@ -3,6 +3,7 @@
 use Rattle.ba_tree.specs.declared.tree.Parts.{Parts}
 use Rattle.ba_tree.specs.declared.tree.Program.{Program}
 
+-- the parts of a program, for whose facts `is_program` is defined
 abbrev pub parts_of : Program → Parts
 parts_of p = record {
   variables = p.variables;

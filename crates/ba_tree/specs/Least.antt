@@ -18,29 +18,34 @@ use Rattle.ba_tree.specs.Weights.{is_weight}
 
 -- SETS of statements are ascending lists of their numbers
 
+-- the statement of a number
 abbrev pub stmt_of : ℕ → StmtId
 stmt_of n = record { 0 = n }
 
+-- the weight of an entry of a list, None without an entry
 abbrev pub entry_of : Option (Option ℕ) → Option ℕ
 entry_of None = None
 entry_of (Some entry) = entry
 
--- Entry n - 1 of a list of weights belongs to statement n. The relaxable statements are those that have a weight.
+-- Entry n - 1 of a list of weights belongs to statement n. The relaxable statements are those with a weight.
 abbrev pub WeightList : Type 0
 WeightList = List (Option ℕ)
 
+-- the weight of statement n, counted from 1; None if it may not be relaxed
 abbrev pub weight_at : WeightList → ℕ → Option ℕ
 weight_at weights n = cond (n == 0) None (entry_of (slice_get weights (n - 1)))
 
--- the weights that hold where none are given: 1 for each statement but the asserts
+-- the weights if none are given: 1 for each statement but the asserts
 abbrev pub unit_weight : StmtKind → Option ℕ
 unit_weight Assert = None
 unit_weight _ = Some 1
 
+-- weight 1 for each statement but the asserts, which have none
 abbrev pub unit_weights : Program → WeightList
 unit_weights p = map (λ (info : StmtInfo). unit_weight info.kind) p.statements
 
--- a list of weights for a program has one entry a statement, each none or from 1 to 1,000, and none for an assert
+-- a list of weights for a program has one entry for each statement: none, or a number from 1 to 1,000; an
+-- assert has none
 pub record AreWeightsOf (p : Program) (weights : WeightList) : Type 0 where
   pub each : length weights ≡ length p.statements
   pub in_range : list_all is_weight weights ≡ true
@@ -51,6 +56,7 @@ abbrev pub AreRelaxableAbove : WeightList → ℕ → List ℕ → Type 0
 AreRelaxableAbove weights low [] = Unit {0}
 AreRelaxableAbove weights low (n ∷ ns) = (low < n) × IsSome (weight_at weights n) × AreRelaxableAbove weights n ns
 
+-- the numbers ascend from 1 on, and each is of a statement that has a weight
 abbrev pub IsRelaxableSet : WeightList → List ℕ → Type 0
 IsRelaxableSet weights = AreRelaxableAbove weights 0
 
@@ -65,23 +71,24 @@ IsBefore [] (y ∷ ys) = Unit {0}
 IsBefore (x ∷ xs) [] = ⊥
 IsBefore (x ∷ xs) (y ∷ ys) = (x < y) ⊎ ((x ≡ y) × IsBefore xs ys)
 
+-- a set comes before each of the others
 abbrev pub IsBeforeAll : List ℕ → List (List ℕ) → Type 0
 IsBeforeAll set [] = Unit {0}
 IsBeforeAll set (other ∷ others) = IsBefore set other × IsBeforeAll set others
 
--- the sets of a list stand in their order, and so each once
+-- the sets of a list are strictly ascending, so each occurs once
 abbrev pub AreInOrder : List (List ℕ) → Type 0
 AreInOrder [] = Unit {0}
 AreInOrder (set ∷ sets) = IsBeforeAll set sets × AreInOrder sets
 
--- FEASIBLE and LEAST sets, for a judge of which choices make a good run where a set is relaxed
+-- FEASIBLE and LEAST sets, for a judge, which tells which choices make a good run if a set is relaxed
 
 -- some choices make a good run
 pub record IsFeasible (good : Judge) (set : List ℕ) : Type 0 where
   pub choices : List Choice
   pub is_good : good set choices ≡ true
 
--- relaxable statements that could repair the run, and that no feasible set undercuts in weight
+-- relaxable statements that could repair the run, such that no feasible set weighs less
 pub record IsLeastSet (weights : WeightList) (good : Judge) (set : List ℕ) : Type 0 where
   pub is_set : IsRelaxableSet weights set
   pub feasible : IsFeasible good set
@@ -92,7 +99,8 @@ pub record AreLeast (weights : WeightList) (good : Judge) (sets : List (List ℕ
   pub in_order : AreInOrder sets
   pub exactly : (set : List ℕ) → Contains sets set ↔ IsLeastSet weights good set
 
--- THE JUDGE of a program on an input: a run is good where its outcome is Done
+-- THE JUDGE of a program on an input: a run is good if its outcome is Done
 
+-- choices are good for a set of statements if the run with it relaxed is done
 abbrev pub judge_of : Program → Input → Bounds → Judge
 judge_of p input b set choices = is_done (run_of p input b (Statements (map stmt_of set)) choices)

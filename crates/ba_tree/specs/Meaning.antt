@@ -33,12 +33,13 @@ use Rattle.ba_tree.specs.declared.tree.Stmt.TheOpen.{Stmt-F}
 use Rattle.ba_tree.specs.declared.tree.Stmt.TheFolds.{fold-Stmt}
 use Rattle.ba_tree.specs.declared.tree.Variable.{Variable}
 
--- A call: the path to it, its own step included, the statement that makes it, the function, and what the arguments gave.
+-- What a call does, by the path to it with its own step, the statement that makes it, the function, and the
+-- arguments.
 abbrev pub Calls : Type 0
 Calls = List Step → StmtId → FnId → List Argument → Act ℤ
 
--- What stands still while a function's body runs: the program, what may be relaxed, how many turns each entry of a loop may have,
--- the type that the function returns, and what calls do.
+-- What stays the same in a function's body: the program, what may be relaxed, the bound on iterations, the
+-- function's type, and what calls do.
 pub record Context : Type 0 where
   pub program : Program
   pub allowed : Allowed
@@ -46,27 +47,32 @@ pub record Context : Type 0 where
   pub result : Option CType
   pub calls : Calls
 
+-- the variable of a number
 abbrev pub variable_of : Program → VarId → Variable
 variable_of p v = slice_index_or p.variables v.0 (record { t = I32; shape = Value })
 
+-- the type of a variable, or of the elements of an array
 abbrev pub type_of : Program → VarId → CType
 type_of p v = (variable_of p v).t
 
--- EXPRESSIONS, from the left to the right, within the statement `here`, which is reached by this path (innermost step first)
+-- EXPRESSIONS, evaluated from left to right within the statement `here`, which is reached by this path
+-- (innermost step first)
 
--- the value, or a trap where there is none
+-- the value, or a trap at `here` for None
 abbrev pub or_trap : StmtId → Option ℤ → Act ℤ
 or_trap here None s = (Err (Trap here), s)
 or_trap here (Some z) s = (Ok z, s)
 
--- whether a value is another one than 0, as a value of C
+-- 1 for a value other than 0, and else 0
 abbrev pub truth_of : ℤ → ℤ
 truth_of z = truth (not (int_eq z (pos 0)))
 
+-- what an argument gives, by its expression: a value, or the location of an array
 abbrev pub arg_step : Arg-F (Act Argument) (Act ℤ) → Act Argument
 arg_step (Arg-F.Value value) s = then_do (value s) (λ z. give (Argument.Value z))
 arg_step (Arg-F.Array array) s = (Ok (Argument.Array (location_of s array)), s)
 
+-- what an expression does, by its parts
 abbrev pub expr_step : Context → List Step → StmtId → Expr-F (Act Argument) (Act ℤ) → Act ℤ
 expr_step x path here (Expr-F.Const t value) s = (Ok value, s)
 expr_step x path here (Expr-F.Var var) s = (Ok (value_at s var), s)
@@ -85,22 +91,26 @@ expr_step x path here (Expr-F.Convert t a) s = then_do (a.value s) (λ z. give (
 expr_step x path here (Expr-F.Call call function args) s =
     then_do (each args.items s) (x.calls (Call call ∷ path) here function)
 
+-- the evaluation of an expression
 unfoldable pub eval : Context → List Step → StmtId → Expr → Act ℤ
 eval x path here = fold-Expr (Act Argument) (Act ℤ) arg_step (expr_step x path here)
 
+-- the evaluation of an argument
 unfoldable pub eval_arg : Context → List Step → StmtId → Arg → Act Argument
 eval_arg x path here = fold-Arg (Act Argument) (Act ℤ) arg_step (expr_step x path here)
 
--- THE PARTS OF STATEMENTS, each as written or as the choice says
+-- PARTS OF STATEMENTS, each as written or by the choice
 
 -- an execution of this statement may be relaxed
 abbrev pub is_relaxed : Context → List Step → StmtId → Bool
 is_relaxed x path stmt = admits x.program x.allowed path stmt
 
--- a value of this type, as written or as the choice says: of an initialiser, an assignment, a return or a controlling expression
+-- a value of this type, as written or by the choice: of an initialiser, an assignment, a return or a
+-- controlling expression
 unfoldable pub given_value : Context → List Step → StmtId → CType → Expr → Act ℤ
 given_value x path stmt t value = value_by_choice (is_relaxed x path stmt) (one_value t) (eval x path stmt value)
 
+-- a condition, as written or by the choice, which is 0 or 1
 unfoldable pub condition : Context → List Step → StmtId → Expr → Act ℤ
 condition x path stmt when = value_by_choice (is_relaxed x path stmt) one_truth (eval x path stmt when)
 
@@ -110,7 +120,7 @@ given_elements x path stmt array values s =
     value_by_choice (is_relaxed x path stmt) (all_elements (type_of x.program array) (length (elements_of s array)))
     (each (map (eval x path stmt) values)) s
 
--- a call as a statement
+-- a call statement
 unfoldable pub call_effect : Context → List Step → StmtId → CallId → FnId → List Arg → Act Unit
 call_effect x path stmt call function args = value_by_choice (is_relaxed x path stmt) no_value
     (λ s. then_do (then_do (each (map (eval_arg x path stmt) args) s) (x.calls (Call call ∷ path) stmt function)) (λ z. give tt))
@@ -126,16 +136,19 @@ given_element x path stmt array index value s =
     value_by_choice (is_relaxed x path stmt) (one_element (type_of x.program array) (length (elements_of s array)))
     (λ s. then_do (eval x path stmt index s) (λ i s. then_do (eval x path stmt value s) (λ z. give (i, z)))) s
 
+-- sets a variable
 abbrev pub set_value : VarId → ℤ → Execution
 set_value var z s = (Ok Next, with_value s var z)
 
--- so many elements: these, and 0 for the rest
+-- an array of n elements: these, and 0 for the rest
 abbrev pub elements_with : ℕ → List ℤ → List ℤ
 elements_with count zs = take count (zs ++ replicate count (pos 0))
 
+-- sets the elements of an array to these, the rest to 0
 abbrev pub set_elements : VarId → List ℤ → Execution
 set_elements array zs s = (Ok Next, with_elements s array (elements_with (length (elements_of s array)) zs))
 
+-- the state after a store, or a trap at `here` for None
 abbrev pub or_trapped : StmtId → Option State → Execution
 or_trapped here None s = (Err (Trap here), s)
 or_trapped here (Some t) s = (Ok Next, t)
@@ -150,27 +163,29 @@ declare Value var s = with_value s var (pos 0)
 declare (Array n) var s = with_elements s var (replicate (length (elements_of s var)) (pos 0))
 declare Passed var s = s
 
+-- the run ends with a failed assertion if the value is 0
 abbrev pub assert_that : StmtId → ℤ → Execution
 assert_that stmt z s = cond (int_eq z (pos 0)) (Err (AssertFails stmt), s) (Ok Next, s)
 
--- what is done for its effect alone
+-- executed for its effect alone; the next statement follows
 abbrev pub and_next : {A : Type 0} → A → Execution
 and_next a s = (Ok Next, s)
 
--- LOOPS (C90 6.6.5): `stmt` is the loop's condition, and turns count from 1
+-- LOOPS (C90 6.6.5): `stmt` is the loop's condition, and iterations count from 1
 
--- the path inside turn k
+-- the path inside iteration k
 abbrev pub in_turn : StmtId → ℕ → List Step → List Step
 in_turn stmt k path = Turn stmt k ∷ path
 
--- a body, and where it doesn't leave the loop the loop's step
+-- one iteration: the body, and the loop's step unless the body leaves the loop
 abbrev pub turn_of : (List Step → Execution) → (List Step → Execution) → List Step → Execution
 turn_of body step path s = then_do (body path s) (λ flow. after_part (step path) (flow_after_body flow))
 
+-- the step of a loop that has none
 abbrev pub no_step : List Step → Execution
 no_step path s = (Ok Next, s)
 
--- `for` behind its first part, and `while`, which has no step: test, body, step, test, ..
+-- `while`, and `for` after its first part: test, body, step, test, .. ; a `while` has no step
 unfoldable pub for_loop : Context → List Step → StmtId → Expr → (List Step → Execution) → (List Step → Execution) → Execution
 for_loop x path stmt when body step s = then_do
     (rounds (λ k. condition x (in_turn stmt k path) stmt when)
@@ -178,12 +193,12 @@ for_loop x path stmt when body step s = then_do
     (halt_with (Beyond stmt)) x.turns 1 s)
     (λ flow. give (flow_after_loop flow))
 
--- no test comes before the first turn of a `do`
+-- the test at the end of an iteration of `do`; none comes before the first iteration
 abbrev pub test_behind : (ℕ → Act ℤ) → ℕ → Act ℤ
 test_behind test zero s = (Ok (pos 1), s)
 test_behind test (suc k) s = test (suc k) s
 
--- `do`: body, test, body, test, .. The test behind turn k stands in turn k, which it ends.
+-- `do`: body, test, body, test, .. The test at the end of iteration k is in iteration k.
 unfoldable pub do_loop : Context → List Step → StmtId → Expr → (List Step → Execution) → Execution
 do_loop x path stmt when body s = then_do
     (rounds (test_behind (λ k. condition x (in_turn stmt k path) stmt when))
@@ -193,24 +208,28 @@ do_loop x path stmt when body s = then_do
 
 -- SWITCHES (C90 6.6.4.2)
 
--- where the label of this value stands, else `default`, else nowhere; of equal labels the first counts
+-- how many statements are before the label of this value, or else before `default`; None if there is neither.
+-- Of equal labels the first counts
 abbrev pub label_at : List Start → ℤ → Option ℕ → Option ℕ
 label_at [] z other = other
 label_at (start ∷ starts) z other = cond (int_eq start.value z) (Some start.at) (label_at starts z other)
 
--- what is executed of a body: all that stands behind the label, and nothing where there is none
+-- what is executed of a body: all that is after the label, and nothing without a label
 abbrev pub entered : {A : Type 0} → Option ℕ → List A → List A
 entered None parts = []
 entered (Some at) parts = drop at parts
 
 -- STATEMENTS
 
+-- a part as it is reached by this path
 abbrev pub at_path : List Step → (List Step → Execution) → Execution
 at_path path part = part path
 
+-- statements one after the other, all reached by this path
 abbrev pub stmts_in_order : List Step → List (List Step → Execution) → Execution
 stmts_in_order path parts = in_order (map (at_path path) parts)
 
+-- an `else` branch; without one nothing is done
 abbrev pub optional : Option (Box (List Step → Execution)) → List Step → Execution
 optional None path s = (Ok Next, s)
 optional (Some part) path s = part.value path s
@@ -247,8 +266,10 @@ stmt_step x (Stmt-F.CallStmt stmt call function args) path s = then_do (call_eff
 stmt_step x (Stmt-F.Print stmt args) path s = then_do (print_effect x path stmt args.items s) and_next
 stmt_step x (Stmt-F.Assert stmt when) path s = then_do (eval x path stmt when s) (assert_that stmt)
 
+-- the execution of a statement
 unfoldable pub exec : Context → Stmt → List Step → Execution
 exec x = fold-Stmt (List Step → Execution) (stmt_step x)
 
+-- the execution of statements in order
 unfoldable pub exec_all : Context → List Step → List Stmt → Execution
 exec_all x path body = stmts_in_order path (map (exec x) body)

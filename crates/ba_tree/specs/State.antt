@@ -6,19 +6,21 @@ use Rattle.ba_tree.specs.declared.run.Exit.{Exit}
 use Rattle.ba_numbers.specs.declared.ids.VarId.{VarId}
 use Rattle.ba_choices.specs.declared.Choice.{Choice}
 
--- How a run stands. A variable of one value has it at its number in `values`. Arrays have a location each, in `arrays`; an array
--- variable has at its number in `locations` the one that it names: of an array of its own, or of the argument for an array parameter.
--- At the numbers of a function's own variables stands what its innermost active frame has; its call gives back what stood there
--- before. `choices` are those that are not used yet.
+-- The state of a run. A variable with one value has it at its number in `values`. Each array has a location
+-- in `arrays`. An array variable has at its number in `locations` the location that it names: its own
+-- array's, or the argument's for an array parameter. The entries of a function's variables are those of its
+-- innermost active frame, and its call restores the entries from before. `choices` are those not used up yet.
 pub record State : Type 0 where
   pub values : List ℤ
   pub arrays : List (List ℤ)
   pub locations : List ℕ
   pub choices : List Choice
 
+-- how a part ends: a value or the end of the run, and a state
 abbrev pub Ending : Type 0 → Type 0
 Ending A = EndOn State A
 
+-- a part of a run
 abbrev pub Act : Type 0 → Type 0
 Act A = ActOn State A
 
@@ -28,9 +30,11 @@ Execution = Executes State Exit
 
 -- VARIABLES
 
+-- the value of a variable
 abbrev pub value_at : State → VarId → ℤ
 value_at s v = slice_index_or s.values v.0 (pos 0)
 
+-- the state with this value of a variable
 abbrev pub with_value : State → VarId → ℤ → State
 with_value s v z = record s { values = slice_set s.values v.0 z }
 
@@ -40,9 +44,11 @@ with_value s v z = record s { values = slice_set s.values v.0 z }
 abbrev pub location_of : State → VarId → ℕ
 location_of s v = slice_index_or s.locations v.0 0
 
+-- the elements of the array that a variable names
 abbrev pub elements_of : State → VarId → List ℤ
 elements_of s v = slice_index_or s.arrays (location_of s v) []
 
+-- the state with these elements of the array that a variable names
 abbrev pub with_elements : State → VarId → List ℤ → State
 with_elements s v zs = record s { arrays = slice_set s.arrays (location_of s v) zs }
 

@@ -1,4 +1,4 @@
--- The typed tree in the standard's terms: the same as the tree of the Rust types, without what vectors keep of their own.
+-- The typed tree in the standard's terms: the tree of the Rust types without the capacity of vectors.
 
 use Rattle.std.specs.Prelude.{ℕ, ℤ, Option, None, Some, option_map, List, [], ◌∷◌, map}
 use Rattle.ba_numbers.specs.declared.ids.CallId.{CallId}
@@ -42,19 +42,23 @@ mutual
     value_then : ExprTree → ArgTrees → ArgTrees
     array_then : VarId → ArgTrees → ArgTrees
 
+-- an argument: an expression, or an array's variable
 pub data ArgTree : Type 0 where
   value : ExprTree → ArgTree
   array : VarId → ArgTree
 
+-- a list of arguments as a tree
 abbrev pub args_of : List ArgTree → ArgTrees
 args_of [] = no_more
 args_of (value e ∷ args) = value_then e (args_of args)
 args_of (array v ∷ args) = array_then v (args_of args)
 
+-- the tree of an argument, by that of the expression in it
 abbrev pub arg_tree_step : Arg-F ArgTree ExprTree → ArgTree
 arg_tree_step (Arg-F.Value e) = value e
 arg_tree_step (Arg-F.Array v) = array v
 
+-- the tree of an expression, by those of its parts
 abbrev pub expr_tree_step : Expr-F ArgTree ExprTree → ExprTree
 expr_tree_step (Expr-F.Const t z) = const t z
 expr_tree_step (Expr-F.Var v) = var v
@@ -67,9 +71,11 @@ expr_tree_step (Expr-F.Select t when a b) = select t when.value a.value b.value
 expr_tree_step (Expr-F.Convert t a) = convert t a.value
 expr_tree_step (Expr-F.Call c f args) = call c f (args_of args.items)
 
+-- the tree of an expression
 unfoldable pub tree_of_expr : Expr → ExprTree
 tree_of_expr = fold-Expr ArgTree ExprTree arg_tree_step expr_tree_step
 
+-- the tree of an argument
 unfoldable pub tree_of_arg : Arg → ArgTree
 tree_of_arg = fold-Arg ArgTree ExprTree arg_tree_step expr_tree_step
 
@@ -101,14 +107,17 @@ mutual
     no_stmts : StmtTrees
     stmt_then : StmtTree → StmtTrees → StmtTrees
 
+-- a list of statements as a tree
 abbrev pub stmts_of : List StmtTree → StmtTrees
 stmts_of [] = no_stmts
 stmts_of (s ∷ ss) = stmt_then s (stmts_of ss)
 
+-- the tree of an `if`, with an `else` or without
 abbrev pub if_tree : StmtId → ExprTree → StmtTree → Option StmtTree → StmtTree
 if_tree stmt when a None = if_then stmt when a
 if_tree stmt when a (Some b) = if_else stmt when a b
 
+-- the tree of a statement, by those of its parts
 abbrev pub stmt_tree_step : Stmt-F StmtTree → StmtTree
 stmt_tree_step (Stmt-F.Block body) = block (stmts_of body.items)
 stmt_tree_step (Stmt-F.Declare v) = declare v
@@ -132,17 +141,20 @@ stmt_tree_step (Stmt-F.CallStmt stmt c f args) = call_stmt stmt c f (map tree_of
 stmt_tree_step (Stmt-F.Print stmt args) = print stmt (map tree_of_expr args.items)
 stmt_tree_step (Stmt-F.Assert stmt when) = assert stmt (tree_of_expr when)
 
+-- the tree of a statement
 unfoldable pub tree_of_stmt : Stmt → StmtTree
 tree_of_stmt = fold-Stmt StmtTree stmt_tree_step
 
 -- PROGRAMS
 
+-- the tree of a function
 pub record FunctionTree : Type 0 where
   pub result : Option CType
   pub params : List VarId
   pub locals : List VarId
   pub body : List StmtTree
 
+-- the tree of a program
 pub record ProgramTree : Type 0 where
   pub variables : List Variable
   pub globals : List VarId
@@ -151,6 +163,7 @@ pub record ProgramTree : Type 0 where
   pub main : FnId
   pub statements : List StmtInfo
 
+-- a function as a tree
 abbrev pub tree_of_function : Function → FunctionTree
 tree_of_function f = record {
   result = f.result;
@@ -160,6 +173,7 @@ tree_of_function f = record {
       map tree_of_stmt f.body;
 }
 
+-- a program as a tree
 abbrev pub tree_of : Program → ProgramTree
 tree_of p = record {
   variables = p.variables;

@@ -4,7 +4,7 @@ ghost use Rattle.std.specs.Prelude.{◌≡◌, ℕ, List};
 ghost use Rattle.ba_tree.specs.Least.{AreLeast, WeightList};
 ghost use Rattle.ba_choices.specs.Judges.{Judge};
 
-/// The list of the least sets is one: no other list holds the same sets, each once and in their order.
+/// Law: the list of the least sets is unique. No other list holds the same sets, each once and in order.
 pub fn least_list_is_unique()
     ensures { (weights : WeightList) (good : Judge) (sets others : List (List ℕ)) →
         AreLeast weights good sets → AreLeast weights good others → sets ≡ others }

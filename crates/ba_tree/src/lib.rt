@@ -1,7 +1,5 @@
-//! The typed tree of a C program, and what its programs mean.
-//!
-//! This crate holds the definitions that everything else is measured against: the tree, and the runs of a program
-//! with relaxed statements.
+//! The typed abstract syntax tree of C and its big-step semantics (C90 6.3, 6.5, 6.6), with statements that
+//! may be relaxed. All other crates are measured against these definitions.
 #![tactic(auto)]
 
 pub mod laws;

@@ -1,4 +1,4 @@
-//! What a program declares, by its number, and where a `switch` is entered.
+//! Lookup of declarations by number, and the entry of a `switch`.
 
 ghost use Rattle.std.specs.Prelude.{◌≡◌, ◌<◌, length, MatchOption};
 ghost use Rattle.ba_tree.specs.Meaning.{entered, label_at, variable_of};
@@ -8,7 +8,8 @@ use crate::tree::{Function, Program, Shape, Start, Stmt, Variable};
 use ba_numbers::ids::{FnId, VarId};
 use ba_numbers::numbers::CType;
 
-/// The declaration of a variable. Each variable that a program names has one; another is a value of type `I32`.
+/// The declaration of a variable. Each variable that a program names has one; any other number gives a value
+/// of type `I32`.
 pub fn variable_of(program: &Program, var: VarId) -> Variable
     ensures { result ≡ variable_of program.now var }
 {
@@ -21,7 +22,7 @@ pub fn variable_of(program: &Program, var: VarId) -> Variable
     }
 }
 
-/// The function of this number, if there is one. Each function that a program calls is.
+/// The function of this number, if there is one. Each function that a program calls has a number.
 pub fn function_of(program: &Program, function: FnId) -> Option<&Function>
     ensures { MatchOption result (function_of program.now function ≡ no_function)
         (λ found. (function.0 < length program.now.functions) × (function_of program.now function
@@ -70,8 +71,8 @@ pub fn main_body(program: &Program) -> &[Stmt]
     }
 }
 
-/// Where the label of this value stands in the body of a `switch`, else `default`, if one of them is there. Of equal labels the first
-/// counts.
+/// How many statements of a `switch`'s body are before the label of this value, or else before `default`
+/// (`other`). `None` if there is neither. Of equal labels the first counts.
 pub fn label_at(starts: &[Start], value: i64, other: Option<u32>) -> Option<u32>
     ensures { result ≡ label_at starts.now value other }
 {
@@ -83,7 +84,7 @@ pub fn label_at(starts: &[Start], value: i64, other: Option<u32>) -> Option<u32>
     other
 }
 
-/// What is executed of the body of a `switch` that is entered at this label: nothing where there is none.
+/// The statements of a `switch` that are executed from this label on; none without a label.
 pub fn entered(label: Option<u32>, body: &[Stmt]) -> &[Stmt]
     ensures { result.now ≡ entered label body.now }
 {

@@ -30,20 +30,20 @@ pub enum Expr {
         t: CType,
         a: Box<Expr>,
     },
-    /// A binary operator that works in the type `t`; the left operand is evaluated first (C90 6.3.5 to 6.3.12). The value of a
-    /// comparison has the type `I32`.
+    /// A binary operator that works in the type `t`; the left operand is evaluated first (C90 6.3.5 to
+    /// 6.3.12). The value of a comparison has the type `I32`.
     Binary {
         op: BinOp,
         t: CType,
         a: Box<Expr>,
         b: Box<Expr>,
     },
-    /// C's `&&`: the right side is evaluated only where the left one isn't 0 (C90 6.3.13).
+    /// C's `&&`: the right side is evaluated only if the left one isn't 0 (C90 6.3.13).
     AndAlso {
         a: Box<Expr>,
         b: Box<Expr>,
     },
-    /// C's `||`: the right side is evaluated only where the left one is 0 (C90 6.3.14).
+    /// C's `||`: the right side is evaluated only if the left one is 0 (C90 6.3.14).
     OrElse {
         a: Box<Expr>,
         b: Box<Expr>,
@@ -117,16 +117,16 @@ impl Drop for Arg {
     }
 }
 
-/// A `case` label of a `switch`: its constant, converted to the type of the controlling expression, and how many statements of the
-/// body stand before it (C90 6.6.1, 6.6.4.2).
+/// A `case` label of a `switch` (C90 6.6.1, 6.6.4.2). It has its constant, converted to the type of the
+/// controlling expression, and how many statements of the body are before it.
 #[derive(Clone, Copy, Debug, PartialEq, Eq)]
 pub struct Start {
     pub value: i64,
     pub at: u32,
 }
 
-/// A statement (C90 6.6), or a declaration that is executed (C90 6.5). Those with a `stmt` are numbered: they are what a report
-/// can name, and the asserts.
+/// A statement (C90 6.6), or a declaration that is executed (C90 6.5). Those with a `stmt` are numbered:
+/// asserts, and all that a report can name.
 pub enum Stmt {
     /// A block's statements, one after the other (C90 6.6.2).
     Block {
@@ -142,7 +142,8 @@ pub enum Stmt {
         var: VarId,
         value: Expr,
     },
-    /// The initialiser of an array: all values are evaluated before it is set, and the elements that have no value are 0 (C90 6.5.7).
+    /// The initialiser of an array: all values are evaluated before it is set, and the elements that have no
+    /// value are 0 (C90 6.5.7).
     InitArray {
         stmt: StmtId,
         array: VarId,
@@ -154,7 +155,8 @@ pub enum Stmt {
         var: VarId,
         value: Expr,
     },
-    /// An assignment to an element of an array; the index is evaluated before the value, and tested after it (C90 6.3.16).
+    /// An assignment to an element of an array; the index is evaluated before the value, and tested after it
+    /// (C90 6.3.16).
     Store {
         stmt: StmtId,
         array: VarId,
@@ -168,8 +170,9 @@ pub enum Stmt {
         yes: Box<Stmt>,
         no: Option<Box<Stmt>>,
     },
-    /// C's `switch` (C90 6.6.4.2); `stmt` is its controlling expression, whose promoted type is `t`. The body is executed from the label
-    /// on that has its value, else from `default`, which stands behind `other` statements of the body, else not at all.
+    /// C's `switch` (C90 6.6.4.2); `stmt` is its controlling expression, whose promoted type is `t`. The body
+    /// is executed from the label of its value on. Without one it is executed from `default` on, which is
+    /// after `other` statements, or not at all.
     Switch {
         stmt: StmtId,
         t: CType,
@@ -190,7 +193,7 @@ pub enum Stmt {
         when: Expr,
         body: Box<Stmt>,
     },
-    /// C's `for` (C90 6.6.5.3); `stmt` is its condition, which is the constant 1 where none is written.
+    /// C's `for` (C90 6.6.5.3); `stmt` is its condition, which is the constant 1 if none is written.
     For {
         stmt: StmtId,
         first: Vec<Stmt>,
@@ -209,19 +212,19 @@ pub enum Stmt {
     },
     /// A `return` without a value (C90 6.6.6.4).
     ReturnNone,
-    /// A call as a statement; the value of the function, if it has one, is not used (C90 6.6.3).
+    /// A call statement; the function's value, if it has one, is not used (C90 6.6.3).
     CallStmt {
         stmt: StmtId,
         call: CallId,
         function: FnId,
         args: Vec<Arg>,
     },
-    /// A `printf`, which evaluates its arguments behind the format and prints nothing (C90 7.9.6.3).
+    /// A `printf`, which evaluates its arguments after the format and prints nothing (C90 7.9.6.3).
     Print {
         stmt: StmtId,
         args: Vec<Expr>,
     },
-    /// An assertion, which fails where its value is 0 (C90 7.2.1.1).
+    /// An assertion, which fails if its value is 0 (C90 7.2.1.1).
     Assert {
         stmt: StmtId,
         when: Expr,
@@ -306,10 +309,10 @@ impl Drop for Stmt {
 pub enum Shape {
     /// One value of the variable's type.
     Value,
-    /// So many elements of the variable's type, from 1 to 256.
+    /// An array of this many elements of the variable's type, from 1 to 256.
     Array(u32),
-    /// Nothing of its own: an array parameter of a function other than `main` names the array that its call gives
-    /// (C90 6.7.1).
+    /// No elements of its own: an array parameter of a function other than `main`. It names the array that
+    /// its call gives (C90 6.7.1).
     Passed,
 }
 
@@ -320,8 +323,8 @@ pub struct Variable {
     pub shape: Shape,
 }
 
-/// A function's definition: the type that it returns, if any, its parameters and its other variables, each in the order of the
-/// text, and its body.
+/// A function's definition: the type that it returns, if any, its parameters, its other variables, and its
+/// body. Parameters and variables are in the order of the text.
 pub struct Function {
     pub result: Option<CType>,
     pub params: Items<VarId>,
@@ -340,7 +343,7 @@ impl Drop for Function {
     }
 }
 
-/// What kind of statement a number names.
+/// The kind of a numbered statement.
 #[derive(Clone, Copy, Debug, PartialEq, Eq)]
 pub enum StmtKind {
     /// An initialiser of a variable or of an array.
@@ -355,7 +358,7 @@ pub enum StmtKind {
     Switch,
     /// A `return` with a value.
     Return,
-    /// A call as a statement, or a `printf`.
+    /// A call statement, or a `printf`.
     Call,
     /// An `assert`.
     Assert,
@@ -368,9 +371,9 @@ pub struct StmtInfo {
     pub kind: StmtKind,
 }
 
-/// The parts of a program, which may fit together or not. `VarId` v names `variables[v]`, `FnId` f names `functions[f]`, and `StmtId` n
-/// names `statements[n - 1]`. `inits` holds the initialisers of the globals, in the order of the text, as `globals` are. Calls are
-/// counted from 1. `main` is the function that a run executes.
+/// The parts of a program, which may fit together or not. `VarId` v names `variables[v]`, `FnId` f names
+/// `functions[f]`, and `StmtId` n names `statements[n - 1]`. `globals` and their initialisers, `inits`, are
+/// in the order of the text. Calls are counted from 1. `main` is the function that a run executes.
 #[derive(Drop)]
 pub struct Parts {
     pub variables: Items<Variable>,
@@ -381,8 +384,8 @@ pub struct Parts {
     pub statements: Items<StmtInfo>,
 }
 
-/// A program: parts that fit together. Its numbers name what is there, its expressions have types that fit, its `break`s
-/// stand in loops or `switch`es and its `continue`s in loops, and it is within the limits on its size.
+/// A program: parts that fit together. All numbers name something, and the types of expressions fit. Each
+/// `break` has a loop or `switch` around it, each `continue` a loop, and all limits on size are kept.
 pub struct Program {
     pub variables: Items<Variable>,
     pub globals: Items<VarId>,

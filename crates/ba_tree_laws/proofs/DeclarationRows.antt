@@ -1,4 +1,4 @@
--- Declarations and what stands between the parentheses of a statement, read back.
+-- Declarations and what is between the parentheses of a statement, read back.
 use Rattle.std.proofs.Common.{◌≡◌, ℤ, Option, None, Some, List, [], ◌∷◌, ◌++◌, map, refl, ◌∙◌, ap}
 use Rattle.std.specs.Prelude.{option_map}
 use Rattle.std.proofs.lemmas.List.{append-nil}
@@ -77,7 +77,7 @@ comma_row : (o : Option Token) → Reads (optional_leaf o) (comma_items o)
 comma_row None = none
 comma_row (Some t) = front t none
 
--- an item of the kind behind a comma
+-- an item of the kind after a comma
 behind_comma : {A : Type 0} (pick : Item → Option A) (o : Option Token) (m : M) (i : Item) (x : A)
     → ((t : Token) → pick (token t) ≡ None) → pick i ≡ Some x → Reads m (i ∷ []) →
     AllOf pick (optional_leaf o ++ m) (x ∷ [])
@@ -303,7 +303,7 @@ specifier_item s = record {
   constants = option_map constants_in s.enumerators;
 }
 
--- the words before and behind a list are those of one row
+-- the words before and after a list are those of one row
 pub specifiers_row : (s : Specifiers) → Reads (specifiers_marks s) (specifiers (specifier_item s) ∷ [])
 specifiers_row s =
     let before = map token s.words.items in

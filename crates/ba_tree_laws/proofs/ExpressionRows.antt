@@ -373,7 +373,7 @@ chain_form y =
     are)
     (inside (rule.chain y.level) (front y.operator (deeper (both y.operand.1 (rest_form y.rest)))))
 
--- behind the operand, nothing or the two branches
+-- after the operand, nothing or the two branches
 record AreMaybe (m : M) (s : Option BranchTypings) : Type 0 where
   row : Row
   reads : Reads m row
@@ -415,7 +415,7 @@ conditional_form y =
     ∙ ap (λ b. conditional (with_branches (whole_operand o) b) ∷ []) two)
     (inside rule.conditional (both y.test.1 all.reads))
 
--- expressions behind commas
+-- expressions after commas
 nexts : (es : List OfNext) → AreListed (joined (map next_expression_marks (map (λ e. e.0) es)))
     (map typed_next (map (λ e. e.0) es))
 nexts [] = record { row = []; reads = none; are = refl; no_chains = refl }
@@ -635,7 +635,7 @@ arguments_row = ind-Arguments
     primary_layer unary_layer arguments_layer branches_layer chain_layer conditional_layer expressions_layer
     next_layer operand_layer
 
--- the expressions behind commas of a vector
+-- the expressions after commas of a vector
 pub nexts_row : (es : List NextExpression) →
     AreListed (joined (map next_expression_marks es)) (map typed_next es)
 nexts_row [] = record { row = []; reads = none; are = refl; no_chains = refl }

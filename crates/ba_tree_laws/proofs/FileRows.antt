@@ -331,7 +331,7 @@ form_added w (form.Function name opener ps closer e) (Some s) outer earlier n =
     param_item qs))) parts
     at s outer earlier n) (body_is e)
 
--- what a declaration or a function begins with, and what stands behind it
+-- what a declaration or a function begins with, and what follows it
 abbrev behind_specifiers : ExternalItem → Option Signature → Scope → List Signature → Before → Added →
     FileAdded
 behind_specifiers x s outer earlier n w =

@@ -1,5 +1,5 @@
--- A tree written out, read back: a node is known by the row of what stands in it, and what typing makes of a
--- tree is a function of these rows.
+-- A tree written out, read back. A node is known by the row of what is in it, and what typing makes of a tree
+-- is a function of these rows.
 use Rattle.std.proofs.Common.{◌≡◌, ℕ, ◌+◌, ℤ, pos, Bool, true, false, not, ◌==◌, cond, Option, None, Some, List, [], ◌∷◌, ◌++◌, map, length, refl, sym, ◌∙◌, ap, subst, append_assoc}
 use Rattle.std.specs.Prelude.{flat_map, option_map, unwrap_or}
 use Rattle.std.specs.Option.{is_some}
@@ -27,7 +27,7 @@ use Rattle.ba_typing.specs.declared.meanings.Signature.{Signature}
 
 -- WHAT STANDS IN A ROW: tokens, and what the nodes between them come to
 
--- declarators, of a type, behind functions
+-- declarators, of a type, after functions
 abbrev pub Declaring : Type 0
 Declaring = List Signature → Option CType → Part
 
@@ -47,12 +47,12 @@ pub record ParamItem : Type 0 where
   pub name : Option Token
   pub length : Option (Option Typing)
 
--- what stands at the level of the file; a function has a body or none
+-- what is at the level of the file; a function has a body or none
 pub data ExternalItem : Type 0 where
   variables : SpecifierItem → Declaring → ExternalItem
   function : SpecifierItem → Token → List ParamItem → Option (List Part) → ExternalItem
 
--- a label of a `switch`, by its constant or by where `default` stands, and the statements behind it
+-- a label of a `switch`, by its constant or by where `default` stands, and the statements after it
 pub data LabelItem : Type 0 where
   valued : Typing → LabelItem
   otherwise : At → LabelItem
@@ -168,7 +168,7 @@ abbrev pub as_external : Item → Option ExternalItem
 as_external (external x) = Some x
 as_external _ = None
 
--- EXPRESSIONS. What stands in no tree comes to anything.
+-- EXPRESSIONS. What is in no tree comes to anything.
 
 abbrev pub no_typing : Typing
 no_typing scope calls = typed_constant (record { line = 0; column = 0 }) I32 (pos 0)
@@ -278,7 +278,7 @@ declarator_of _ = λ functions t. nothing
 abbrev pub declarators_of : Row → Declaring
 declarators_of is functions t = in_order (map (λ (d : Declaring). d functions t) (items_of as_declarator is))
 
--- a constant behind one of this value
+-- a constant after one of this value
 abbrev pub constant_added : List Signature → Option ℤ → Token → Option Typed → Part
 constant_added functions last name v =
     add_written name.at v
@@ -393,7 +393,7 @@ for_of around first is = looping_for around first (second_at (items_of as_token 
 abbrev pub do_of : Part → Row → Part
 do_of body is = add_do (unwrap_or (first_of (items_of as_conditional is)) no_typing) body
 
--- behind `if` or `while`, its condition and its statement
+-- after `if` or `while`, its condition and its statement
 abbrev pub controlling : Typing → Part → Row → Part
 controlling test body [] = add_while test body
 controlling test body (absent ∷ is) = add_if test body None
@@ -430,12 +430,12 @@ switched_by test groups scope n =
     (tree.switch (next_stmt n) t (tree_as t w) b.labels.starts b.labels.other (stmts_of b.added.stmts))
     (c and b.added)
 
--- behind the token behind a condition: behind a brace a brace stands at least
+-- after the token after a condition: after a brace a brace is at least
 abbrev pub ended : Token → Typing → Row → Part
 ended keyword test [] = add_assert keyword.at test
 ended keyword test (i ∷ is) = switched_by test (items_of as_group (i ∷ is))
 
--- behind `if`, `while`, `assert` or `switch` and its condition
+-- after `if`, `while`, `assert` or `switch` and its condition
 abbrev pub conditioned : Token → Typing → Row → Part
 conditioned keyword test (statement s ∷ is) = controlling test s is
 conditioned keyword test (token t ∷ is) = ended keyword test is
@@ -445,7 +445,7 @@ abbrev pub closed : Token → Typing → Row → Part
 closed keyword test (token closer ∷ is) = conditioned keyword test is
 closed keyword test _ = nothing
 
--- behind a keyword and the parenthesis or semicolon behind it
+-- after a keyword and the parenthesis or semicolon after it
 abbrev pub parenthesized_by : Token → Row → Part
 parenthesized_by keyword [] = add_jump_with keyword None
 parenthesized_by keyword (conditional test ∷ is) = closed keyword test is
@@ -568,7 +568,7 @@ read (leave r ∷ ms) row (above ∷ outer) = read ms (above ++ node_item r row 
 read (down ∷ ms) row outer = read ms row outer
 read (up ∷ ms) row outer = read ms row outer
 
--- marks that put these items behind a row
+-- marks that put these items after a row
 pub record Reads (f : List Mark) (is : Row) : Type 0 where
   pub by : (rest : List Mark) (row : Row) (outer : List Row) →
       read (f ++ rest) row outer ≡ read rest (row ++ is) outer

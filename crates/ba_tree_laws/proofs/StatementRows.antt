@@ -75,7 +75,7 @@ record IsItem (m : M) (s : Part) : Type 0 where
   reads : Reads m (item ∷ [])
   is : as_block_item item ≡ Some s
 
--- what stands in a statement's node
+-- what is in a statement's node
 record IsForm (m : M) (s : Part) : Type 0 where
   row : Row
   reads : Reads m row
@@ -92,7 +92,7 @@ record IsElse (m : M) (s : Part) : Type 0 where
   keyword : Token
   reads : Reads m (token keyword ∷ statement s ∷ [])
 
--- a label and the statements behind it
+-- a label and the statements after it
 abbrev label_by : Label → LabelItem
 label_by (labelled.Case keyword value colon) = valued (typed_conditional value)
 label_by (labelled.Default keyword colon) = otherwise keyword.at
@@ -297,7 +297,7 @@ returned : (keyword semicolon : Token) (o : Option Conditional)
 returned keyword semicolon None = refl
 returned keyword semicolon (Some c) = refl
 
--- what is behind the brace of a `switch`
+-- what is after the brace of a `switch`
 switched : (keyword : Token) (test : Typing) (is : Row) (closer : Token)
     → ended keyword test (is ++ token closer ∷ [])
     ≡ switched_by test (items_of as_group (is ++ token closer ∷ []))
@@ -440,7 +440,7 @@ else_form : (y : Pieces Else-F) →
     IsElse (marks.else_step (marked_else (bare_else y))) (else_step (added_else (bare_else y)))
 else_form y = record { keyword = y.keyword; reads = front y.keyword y.statement.1 }
 
--- the row of a head, and of the body behind it
+-- the row of a head, and of the body after it
 abbrev head_items : ForFirst → Token → Option Conditional → Token → Option Simples → Row
 head_items f first test second step = ((for_first (for_scope f) (add_first f) ∷ [])
     ++ (token first ∷ conditional_items (optional_typing test))) ++ (token second ∷ simples_items

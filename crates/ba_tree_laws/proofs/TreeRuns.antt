@@ -25,7 +25,7 @@ use Rattle.ba_tree.specs.declared.tree.Variable.{Variable}
 use Rattle.ba_tree.specs.Trees.{ExprTree, ArgTrees, ArgTree, StmtTree, StmtTrees, args_of}
 use Rattle.ba_tree.specs.Trees as tree
 
--- What stands still while a function's body runs, with no more of the program than is looked at.
+-- What stays the same while a function's body runs, with no more of the program than is looked at.
 pub record Setting : Type 0 where
   pub variables : List Variable
   pub statements : List StmtInfo

@@ -1,4 +1,4 @@
--- The tree of the Rust types costs what the tree in the standard's terms costs, by induction, and so programs
+-- The tree of the Rust types costs what the tree in the standard's terms costs, by induction. So programs
 -- with the same tree cost the same.
 use Rattle.std.proofs.Common.{◌≡◌, suc, zero, ℕ, ◌+◌, ◌-◌, None, Some, List, [], ◌∷◌, map, refl, sym, ◌∙◌, ap, subst}
 use Rattle.std.specs.Prelude.{length, sum_by}

@@ -11,9 +11,11 @@ use Rattle.ba_tree.specs.declared.run.Bounds.{Bounds}
 use Rattle.ba_tree.specs.declared.run.Input.{Input}
 use Rattle.ba_tree.specs.declared.tree.Program.{Program}
 
--- What the definitions say of the one they say of the other: of its numbered statements, its size, its
--- runs and which of them are good, the inputs that it takes, the texts that write them, and the weights of
--- its statements.
+-- The definitions say the same of both programs:
+-- - their numbered statements and their units
+-- - their runs, and which of them are good
+-- - the inputs that they take, and the texts of these
+-- - the weights of their statements
 pub record AreEquivalent (p q : Program) : Type 0 where
   pub statements : p.statements ≡ q.statements
   pub units : (b : Bounds) → units_of p b ≡ units_of q b

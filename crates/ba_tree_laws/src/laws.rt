@@ -11,7 +11,7 @@ ghost use Rattle.ba_typing.specs.Files.{faults_of, typed_of};
 ghost use Rattle.ba_tree_laws.specs.Spelling.{AreTokensOf, Spells};
 ghost use Rattle.ba_tree.specs.Trees.{tree_of};
 
-/// Trees that are the same written out have the same faults and the same typed program.
+/// Law: trees that are the same written out have the same faults and the same typed program.
 pub fn one_typing()
     ensures faults { (tree other : RawProgram) → file_marks tree ≡ file_marks other
         → faults_of tree.externals.items ≡ faults_of other.externals.items }
@@ -19,7 +19,8 @@ pub fn one_typing()
         → typed_of tree.externals.items ≡ typed_of other.externals.items }
 {}
 
-/// No list of tokens is that of two programs, and no text spells two. They are compared without what vectors keep of their own.
+/// Law: no list of tokens is that of two programs, and no text spells two. Programs are compared without the
+/// capacity of vectors.
 pub fn one_program()
     ensures tokens { (tokens : List Token) (p q : Program) → AreTokensOf tokens p
         → AreTokensOf tokens q
@@ -28,7 +29,7 @@ pub fn one_program()
         → tree_of p ≡ tree_of q }
 {}
 
-/// Where the tree of a text has a fault, or no `main`, the text spells no program.
+/// Law: if the tree of a text has a fault or no `main`, the text spells no program.
 pub fn no_program()
     ensures fault { (text : List ℕ) (tokens : List Token) (tree : RawProgram) (p : Program)
         → tokens_of text ≡ Ok tokens → IsParsed tokens (file_marks tree) → Spells text p

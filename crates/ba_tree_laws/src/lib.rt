@@ -1,7 +1,7 @@
-//! Laws of texts, trees and programs: a text spells one program or none, and what a program means depends on its tree
-//! alone, and not on how much room its lists have in memory.
+//! Unambiguity of the front end, as laws: a text spells one program or none, and a program's meaning depends
+//! on its tree alone. The capacity of its lists does not matter.
 //!
-//! Each is a function whose clause is the law, and which does nothing.
+//! Each law is the clause of a function that does nothing.
 #![tactic(auto)]
 
 pub mod laws;
@@ -12,12 +12,12 @@ ghost use Rattle.ba_tree_laws.specs.Spelling.{Spells};
 ghost use Rattle.ba_tree.specs.Trees.{tree_of};
 ghost use Rattle.ba_tree_laws.specs.Equivalent.{AreEquivalent};
 
-/// Programs with the same tree are equivalent.
+/// Law: programs with the same tree are equivalent.
 pub fn same_meaning()
     ensures { (p q : Program) → tree_of p ≡ tree_of q → AreEquivalent p q }
 {}
 
-/// A text has one meaning: all programs that it spells are equivalent.
+/// Law: a text has one meaning. All programs that it spells are equivalent.
 pub fn one_meaning()
     ensures { (text : List ℕ) (p q : Program) → Spells text p → Spells text q → AreEquivalent p q }
 {}

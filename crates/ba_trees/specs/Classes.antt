@@ -12,6 +12,7 @@ use Rattle.ba_trees.specs.declared.class.TokenClass.{TokenClass}
 use Rattle.ba_trees.specs.declared.class.TokenClass.TheVariants as class
 use Rattle.ba_trees.specs.contracts.class.TokenClassPartialEq.TheImpl.{eq-value}
 
+-- the class of a kind of token
 abbrev pub class_of_kind : TokenKind → TokenClass
 class_of_kind (kind.Name text) = class.Name
 class_of_kind (kind.Constant t value) = class.Constant
@@ -19,6 +20,7 @@ class_of_kind kind.Quoted = class.Quoted
 class_of_kind (kind.Keyword k) = class.Keyword k
 class_of_kind (kind.Punct q) = class.Punct q
 
+-- the class of a token
 abbrev pub class_of : Token → TokenClass
 class_of t = class_of_kind t.kind
 
@@ -30,13 +32,16 @@ Classes = TokenClass → Bool
 abbrev pub only : TokenClass → Classes
 only d c = eq-value.it c d
 
+-- the class of this keyword
 abbrev pub word : Keyword → Classes
 word k = only (class.Keyword k)
 
+-- the class of this punctuator
 abbrev pub mark : Punct → Classes
 mark q = only (class.Punct q)
 
 infixr 4 ◌or◌
+-- the classes of both
 abbrev pub ◌or◌ : Classes → Classes → Classes
 (a or b) c = a c || b c
 
@@ -47,7 +52,7 @@ abbrev pub type_word : Classes
 type_word = word keyword.Void or word keyword.Char or word keyword.Short or word keyword.Int or word
     keyword.Long or word keyword.Signed or word keyword.Unsigned or word keyword.Enum
 
--- a word beside those that name a type; `static` only where it is accepted
+-- a word that goes with those that name a type; `static` only if it is accepted
 abbrev pub qualifier : Bool → Classes
 qualifier static c = word keyword.Const c || (static && word keyword.Static c)
 
@@ -55,8 +60,8 @@ qualifier static c = word keyword.Const c || (static && word keyword.Static c)
 abbrev pub declaration_word : Bool → Classes
 declaration_word static c = type_word c || qualifier static c
 
--- the first of two words excludes the second: void and enum all others, char the lengths, short long, signed
--- unsigned
+-- the first of two words excludes the second: void and enum exclude all others, char the lengths, short long,
+-- signed unsigned
 abbrev pub excludes : TokenClass → TokenClass → Bool
 excludes c d =
     ((word keyword.Void or word keyword.Enum) c && type_word d)
@@ -64,15 +69,15 @@ excludes c d =
     || (word keyword.Short c && word keyword.Long d)
     || (word keyword.Signed c && word keyword.Unsigned d)
 
--- two words stand in one list, the first one before the second; `enum` is the last of its list (C90 6.5.2.2)
+-- two words may be in one list, the first one before the second; `enum` is the last of its list (C90 6.5.2.2)
 abbrev pub agree : TokenClass → TokenClass → Bool
 agree c d = not (word keyword.Enum c || eq-value.it c d || excludes c d || excludes d c)
 
--- no word stands twice, and each two agree
+-- no word occurs twice, and each two agree
 abbrev pub all_agree : List TokenClass → Bool
 all_agree [] = true
 all_agree (c ∷ cs) = list_all (agree c) cs && all_agree cs
 
--- a list of words that names a type
+-- a list of words names a type
 abbrev pub names_type : Bool → List TokenClass → Bool
 names_type static cs = list_all (declaration_word static) cs && all_agree cs && list_any type_word cs

@@ -19,7 +19,7 @@ use Rattle.ba_trees.specs.Views.{joined, optional}
 abbrev pub type_name_marks : TypeName → List Mark
 type_name_marks t = node_of type_name (map leaf t.words.items)
 
--- WHAT A TYPE ADDS, where its parts are written out
+-- WHAT A TYPE ADDS to its parts written out
 
 abbrev pub M : Type 0
 M = List Mark

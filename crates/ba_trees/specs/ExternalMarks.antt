@@ -1,4 +1,4 @@
--- The trees of what stands at the level of the file, written out.
+-- The trees of what is at the level of the file, written out.
 
 use Rattle.std.specs.Prelude.{List, [], ◌∷◌, ◌++◌, option_map}
 use Rattle.ba_trees.specs.declared.tree.statements.External.{External}

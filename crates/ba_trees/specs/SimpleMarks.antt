@@ -1,5 +1,5 @@
--- The trees of assignments, steps and calls, and of what stands between the parentheses of a statement,
--- written out.
+-- The trees of assignments, steps and calls, and of what is between the parentheses of a statement, written
+-- out.
 
 use Rattle.std.specs.Prelude.{List, [], ◌∷◌, ◌++◌, map, option_map}
 use Rattle.ba_trees.specs.declared.tree.statements.Target.{Target}

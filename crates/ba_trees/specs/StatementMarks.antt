@@ -16,9 +16,9 @@ use Rattle.ba_trees.specs.ExpressionMarks.{M, conditional_marks}
 use Rattle.ba_trees.specs.DeclarationMarks.{declaration_marks}
 use Rattle.ba_trees.specs.SimpleMarks.{simple_marks, condition_marks, label_marks, for_head_marks, printed_marks}
 
--- WHAT A TYPE ADDS, where its parts are written out
+-- WHAT A TYPE ADDS to its parts written out
 
--- no `else` is a node with nothing in it
+-- a missing `else` is an empty node
 abbrev pub or_no_else : Option M → M
 or_no_else None = node_of no_else []
 or_no_else (Some f) = f

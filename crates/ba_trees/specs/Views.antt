@@ -14,7 +14,7 @@ abbrev pub joined : List (List Mark) → List Mark
 joined [] = []
 joined (f ∷ fs) = f ++ joined fs
 
--- a token that may be left out; the name of a parameter, where the node without a name stands for none
+-- a token that may be left out; a parameter's name, or the empty node for a missing one
 abbrev pub optional_leaf : Option Token → List Mark
 optional_leaf None = []
 optional_leaf (Some t) = leaf t ∷ []

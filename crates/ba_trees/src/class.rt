@@ -5,7 +5,8 @@ ghost use Rattle.ba_trees.specs.Classes.{class_of};
 
 use ba_tokens::token::{Keyword, Punct, Token, TokenKind};
 
-/// What the grammar sees of a token: not the spelling of a name, nor the value of a constant.
+/// The class of a token, which is all that the grammar sees of it. It tells neither the spelling of a name
+/// nor the value of a constant.
 #[derive(Clone, Copy, Debug, PartialEq, Eq)]
 pub enum TokenClass {
     Name,
@@ -15,7 +16,7 @@ pub enum TokenClass {
     Punct(Punct),
 }
 
-/// What the grammar sees of a token.
+/// The class of a token.
 pub fn class_of(token: &Token) -> TokenClass
     ensures { result ≡ class_of token.now }
 {

@@ -1,4 +1,4 @@
-//! The trees of C programs as the grammar has them (C90 6.3 to 6.7), and what the grammar sees of a token.
+//! The parse trees of C (C90 6.3 to 6.7), and the classes of tokens.
 #![tactic(auto)]
 
 pub mod class;

@@ -13,13 +13,13 @@ use Rattle.ba_trees.specs.declared.tree.statements.ExternalForm.TheVariants as f
 use Rattle.ba_tree.specs.declared.tree.Function.{Function}
 use Rattle.ba_tree.specs.declared.tree.Parts.{Parts}
 use Rattle.ba_tree.specs.declared.tree.Stmt.{Stmt}
-use Rattle.ba_statements.specs.Adding.{State, at_place, before_of, behind_part, extended, no_work, state}
+use Rattle.ba_statements.specs.Adding.{State, state_with, before_of, behind_part, extended, no_work, state}
 use Rattle.ba_typing.specs.Declarations.{Before, add_optional_declarators, add_specifiers, behind, nothing_added}
 use Rattle.ba_typing.specs.Faults.{IsFirst}
 use Rattle.ba_typing.specs.Files.{FileAdded, FirstFault, add_external, add_externals, add_external_form, definitions_of, faults_of, file_of, file_scope, main_of, program_of, signature_of, typed_of, vars_of, with_functions, with_signature}
-use Rattle.ba_types.specs.Filing.{CheckedParts, FileState, IsTyped, behind_externals, error_of, file_place, file_state, with_part}
+use Rattle.ba_types.specs.Filing.{CheckedParts, FileState, IsTyped, behind_externals, error_of, file_state_with, file_state, with_part}
 use Rattle.ba_tree.specs.Trees.{StmtTree, tree_of_parts}
-use Rattle.ba_expressions.specs.Judging.{after, nothing_found}
+use Rattle.ba_expressions.specs.Inferring.{after, nothing_found}
 use Rattle.ba_typing.specs.Names.{Scope, knowing, type_specified}
 use Rattle.ba_tree.specs.Trees.{tree_of_function, tree_of_stmt}
 use Rattle.ba_typing.specs.declared.error.TypeError.TheVariants as error
@@ -105,20 +105,20 @@ all-externals xs earlier s t none is = is ∙ ap (λ ss. behind_externals 0 xs s
 
 -- ONE PART
 
--- the words that it begins with, and then what stands behind them
+-- the words that it begins with, and then what follows them
 pub specified : (x : External) (o : Option Signature) (earlier : List Signature) (s0 k : Scope) (w0 v : Work)
     (inits : List StmtTree) (fs : Vec Function) (t : FileState)
-    → at_place k v inits ≡ behind_part (add_specifiers earlier x.specifiers) (at_place s0 w0 inits)
-    → t ≡ with_part (file_place k v inits fs)
+    → state_with k v inits ≡ behind_part (add_specifiers earlier x.specifiers) (state_with s0 w0 inits)
+    → t ≡ with_part (file_state_with k v inits fs)
     (add_external_form (type_specified x.specifiers) x.form o k earlier (before_of v))
-    → t ≡ with_part (file_place s0 w0 inits fs) (add_external x o s0 earlier (before_of w0))
+    → t ≡ with_part (file_state_with s0 w0 inits fs) (add_external x o s0 earlier (before_of w0))
 unfolding behind_part
 specified x o earlier s0 k w0 v inits fs t begun ended =
     let a = add_specifiers earlier x.specifiers s0 (before_of w0) in
     let form : Scope → Before → FileAdded = λ k n.
     add_external_form (type_specified x.specifiers) x.form o k earlier n in
     let place : State → FileState = λ s. record { state = s; functions = map tree_of_function fs.items } in
-    let s = at_place s0 w0 inits in
+    let s = state_with s0 w0 inits in
     let known = knowing a.entries s0 in
     let b = form known (behind (before_of w0) a) in
     ended ∙ ap (λ (s : State). with_part (place s) (form s.scope (before_of s.work))) begun
@@ -152,11 +152,11 @@ pub typed-is : (xs : List External) (s0 s1 : Scope) (w0 w1 : Work) (i0 i1 : Vec 
     → f.functions ≡ f1.items
     → f.work ≡ w1 → IsTyped f xs
 typed-is xs s0 s1 w0 w1 i0 i1 f0 f1 f scopes works inits functions added main vars stmts defined counted =
-    let start : FileState = record { state = at_place (file_scope xs) no_work []; functions = [] } in
+    let start : FileState = record { state = state_with (file_scope xs) no_work []; functions = [] } in
     let begins : with_part (file_state s0 w0 i0 f0) (add_externals 0 xs s0 [] (before_of w0))
     ≡ with_part start (file_of xs) = λ i. with_part
     (record {
-      state = at_place (scopes i) (works i) (map tree_of_stmt (inits i));
+      state = state_with (scopes i) (works i) (map tree_of_stmt (inits i));
       functions = map tree_of_function (functions i);
     })
     (add_externals 0 xs (scopes i) [] (before_of (works i))) in

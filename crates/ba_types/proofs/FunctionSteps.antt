@@ -9,11 +9,11 @@ use Rattle.ba_numbers.specs.declared.numbers.CType.{CType}
 use Rattle.ba_trees.specs.declared.tree.declarations.Parameter.{Parameter}
 use Rattle.ba_trees.specs.declared.tree.statements.FunctionEnd.{FunctionEnd}
 use Rattle.ba_tree.specs.declared.tree.Function.{Function}
-use Rattle.ba_statements.specs.Adding.{State, at_place, before_of, behind_part, extended, with_added}
+use Rattle.ba_statements.specs.Adding.{State, state_with, before_of, behind_part, extended, with_added}
 use Rattle.ba_typing.specs.Declarations.{Added, Part, ◌and◌, behind, faults_added, in_order}
 use Rattle.ba_typing.specs.Files.{add_function, add_params, body_parts, function_scope, function_tree, signature_faults, vars_from, vars_of}
-use Rattle.ba_types.specs.Filing.{GivesFunction, file_place, with_part}
-use Rattle.ba_expressions.specs.Judging.{with_faults}
+use Rattle.ba_types.specs.Filing.{GivesFunction, file_state_with, with_part}
+use Rattle.ba_expressions.specs.Inferring.{with_faults}
 use Rattle.ba_scopes.specs.Marks.{back_to, mark_of}
 use Rattle.ba_typing.specs.Names.{Scope, is_main_name, knowing}
 use Rattle.ba_tree.specs.Trees.{FunctionTree, StmtTree, tree_of_function, tree_of_stmt}
@@ -50,8 +50,8 @@ module _ (owner : Owner) (type : Option CType) (ps : List Parameter) (e : Functi
   second = body (knowing first.entries s0) (behind (before_of w0) first)
 
   pub function-is : (stmts : List StmtTree) (f : Function)
-      → at_place s1 w1 [] ≡ behind_part params (at_place s0 w0 [])
-      → at_place s2 w2 stmts ≡ behind_part body (at_place s1 w1 [])
+      → state_with s1 w1 [] ≡ behind_part params (state_with s0 w0 [])
+      → state_with s2 w2 stmts ≡ behind_part body (state_with s1 w1 [])
       → f.result ≡ type → f.params ≡ vars_of (drop (length s0.known) s1.known)
       → f.locals ≡ vars_from (length w1.variables) (length w2.variables - length w1.variables)
       → map tree_of_stmt f.body ≡ stmts → GivesFunction owner type ps e s0 w0 s2 w2 f
@@ -59,9 +59,9 @@ module _ (owner : Owner) (type : Option CType) (ps : List Parameter) (e : Functi
   function-is stmts f one two types vars locals trees =
       let knows : s1 ≡ knowing first.entries s0 = ap (λ (s : State). s.scope) one in
       let works : w1 ≡ with_added w0 first = ap (λ (s : State). s.work) one in
-      let middle : State = at_place (knowing first.entries s0) (with_added w0 first) [] in
-      let start : at_place s1 w1 [] ≡ middle = λ i. at_place (knows i) (works i) [] in
-      let all : at_place s2 w2 stmts ≡ extended middle second = two ∙ ap (behind_part body) start
+      let middle : State = state_with (knowing first.entries s0) (with_added w0 first) [] in
+      let start : state_with s1 w1 [] ≡ middle = λ i. state_with (knows i) (works i) [] in
+      let all : state_with s2 w2 stmts ≡ extended middle second = two ∙ ap (behind_part body) start
       ∙ ap (λ n. extended middle (body (knowing first.entries s0) n)) (before-added w0 first) in
       let before : length w1.variables ≡ length w0.variables + length first.variables
       = ap (λ (w : Work). length w.variables) works ∙ length-append w0.variables first.variables in
@@ -86,7 +86,7 @@ module _ (owner : Owner) (type : Option CType) (ps : List Parameter) (e : Functi
         works = ap (λ (s : State). s.work) all ∙ with_added-both w0 first second;
       }
 
--- A FUNCTION behind which nothing of it is in scope
+-- A FUNCTION after which nothing of it is in scope
 
 -- what was around it
 left-is : (s0 s2 : Scope) (type : Option CType) (first second : Added)
@@ -105,8 +105,8 @@ module _ (at : At) (s : Signature) (ps : List Parameter) (e : FunctionEnd) (earl
   abbrev faults : Added
   faults = faults_added (signature_faults s0 earlier s at)
 
-  abbrev judged : Work
-  judged = record w0 { tally = with_faults w0.tally (signature_faults s0 earlier s at) }
+  abbrev inferred : Work
+  inferred = record w0 { tally = with_faults w0.tally (signature_faults s0 earlier s at) }
 
   abbrev params-added : Added
   params-added = add_params (is_main_name s.name) s.is_definition at 1 ps around (before_of w0)
@@ -115,16 +115,16 @@ module _ (at : At) (s : Signature) (ps : List Parameter) (e : FunctionEnd) (earl
   body-added = in_order (body_parts e) (knowing params-added.entries around)
       (behind (before_of w0) params-added)
 
-  pub function-added : (f : Function) (inits : List StmtTree) (fs later : Vec Function) → w1 ≡ judged
+  pub function-added : (f : Function) (inits : List StmtTree) (fs later : Vec Function) → w1 ≡ inferred
       → s1 ≡ around
       → GivesFunction owner s.result ps e s1 w1 s2 w2 f → s3 ≡ back_to (mark_of s0) s2
       → map tree_of_function later.items
       ≡ map tree_of_function fs.items ++ cond s.is_definition (tree_of_function f ∷ []) []
-      → file_place s3 w2 inits later
-      ≡ with_part (file_place s0 w0 inits fs) (add_function at s ps e s0 earlier (before_of w0))
+      → file_state_with s3 w2 inits later
+      ≡ with_part (file_state_with s0 w0 inits fs) (add_function at s ps e s0 earlier (before_of w0))
   function-added f inits fs later works scopes given left pushed =
-      let given : GivesFunction owner s.result ps e around judged s2 w2 f
-      = subst (λ k. GivesFunction owner s.result ps e k judged s2 w2 f) scopes
+      let given : GivesFunction owner s.result ps e around inferred s2 w2 f
+      = subst (λ k. GivesFunction owner s.result ps e k inferred s2 w2 f) scopes
       (subst (λ w. GivesFunction owner s.result ps e s1 w s2 w2 f) works given) in
       let scope : s3 ≡ knowing [] s0 = left ∙ left-is s0 s2 s.result params-added body-added given.knows
       ∙ knowing-nothing s0 in

@@ -9,12 +9,12 @@ use Rattle.ba_trees.specs.declared.tree.declarations.NextParameter.{NextParamete
 use Rattle.ba_trees.specs.declared.tree.declarations.Parameter.{Parameter}
 use Rattle.ba_trees.specs.declared.tree.expressions.TypeName.{TypeName}
 use Rattle.ba_tree.specs.declared.tree.Shape.{Shape}
-use Rattle.ba_statements.specs.Adding.{AddsLength, IsLength, State, at_place, before_of, behind_part, with_added, with_judged}
+use Rattle.ba_statements.specs.Adding.{AddsLength, IsLength, State, state_with, before_of, behind_part, with_added, with_inferred}
 use Rattle.ba_typing.specs.Declarations.{Part, TypedLength, add_length, add_variable, faults_added, nothing_added}
 use Rattle.ba_typing.specs.Faults.{fault_if, limit_faults, parameter_limit, tag_faults, void_faults}
-use Rattle.ba_typing.specs.Files.{add_param, add_params, bad_length_faults, check_length, name_of_param, param_length, param_shape, place_of_param}
+use Rattle.ba_typing.specs.Files.{add_param, add_params, bad_length_faults, check_length, name_of_param, param_length, param_shape, position_of_param}
 use Rattle.ba_types.specs.Filing.{declaring_param, is_bad, next_params}
-use Rattle.ba_expressions.specs.Judging.{after, with_faults}
+use Rattle.ba_expressions.specs.Inferring.{after, with_faults}
 use Rattle.ba_typing.specs.Names.{Scope, tag_of, type_named, words_of}
 use Rattle.ba_tree.specs.Trees.{StmtTree}
 use Rattle.ba_statements.specs.declared.declarations.Length.{Length}
@@ -29,10 +29,10 @@ use Rattle.ba_typing.proofs.Walks.{next_item, none_left}
 
 -- THE LENGTH OF AN ARRAY PARAMETER
 
--- expressions that are judged alone, and faults
-pub judged-work : (w : Work) (calls : ℕ) (faults : List Fault)
-    → with_judged w calls faults ≡ with_added w (record nothing_added { calls = calls; faults = faults })
-judged-work w calls faults = λ i. record {
+-- expressions that are inferred alone, and faults
+pub inferred-work : (w : Work) (calls : ℕ) (faults : List Fault)
+    → with_inferred w calls faults ≡ with_added w (record nothing_added { calls = calls; faults = faults })
+inferred-work w calls faults = λ i. record {
   variables = sym (append-nil w.variables) i;
   constants = sym (add-zero w.constants) i;
   statements = sym (append-nil w.statements) i;
@@ -48,7 +48,8 @@ bad-faults at (Some n) = refl
 pub checked-is : (at : At) (s : Option TypedLength) (l : Option Length) (scope : Scope) (w : Work)
     (t u : Tally)
     (stmts : List StmtTree) → IsLength s w.tally t l → u ≡ with_faults t (fault_if (is_bad l) BadLength at)
-    → at_place scope (record w { tally = u }) stmts ≡ behind_part (check_length at s) (at_place scope w stmts)
+    → state_with scope (record w { tally = u }) stmts ≡ behind_part (check_length at s) (state_with scope w
+    stmts)
 checked-is at None l scope w t u stmts is more =
     in-scope (check_length at None) nothing_added scope w (record w { tally = u }) stmts stmts refl refl
     (ap (λ t. record w { tally = t }) (more
@@ -62,7 +63,7 @@ checked-is at (Some s) l scope w t u stmts is more =
     (bad_length_faults at s.count) is.1
     (more ∙ ap (λ (l : Option Length). with_faults t (fault_if (is_bad l) BadLength at)) is.0
     ∙ ap (with_faults t) (bad-faults at s.count)))
-    ∙ judged-work w s.calls (bad_length_faults at s.count ++ s.faults))
+    ∙ inferred-work w s.calls (bad_length_faults at s.count ++ s.faults))
     (sym (append-nil stmts))
 
 -- A PARAMETER
@@ -77,25 +78,27 @@ module _ (is_main : Bool) (at : At) (t : Option CType) (p : Parameter) where
       → AddsLength at (param_length is_main at p.length s0 w0.tally.calls) s0 w0 w1 l
       → name ≡ name_of_param p.name → x ≡ unwrap_or t I32
       → k ≡ param_shape is_main p.length (param_length is_main at p.length s0 w0.tally.calls)
-      → at_place s1 w2 stmts ≡ behind_part (variable name x k) (at_place s0 w1 stmts)
-      → at_place s1 w2 stmts ≡ behind_part (declaring_param is_main true at t p) (at_place s0 w0 stmts)
+      → state_with s1 w2 stmts ≡ behind_part (variable name x k) (state_with s0 w1 stmts)
+      → state_with s1 w2 stmts ≡ behind_part (declaring_param is_main true at t p) (state_with s0 w0 stmts)
   unfolding behind_part
   own-is s0 s1 w0 w1 w2 stmts l name x k adds names types shapes declares =
       let expression = param_length is_main at p.length s0 w0.tally.calls in
-      let start = at_place s0 w1 stmts in
+      let start = state_with s0 w1 stmts in
       let called = name_of_param p.name in let type = unwrap_or t I32 in
       and-then (add_length at expression) (variable called type (param_shape is_main p.length expression))
-      (at_place s0 w0 stmts) start (at_place s1 w2 stmts) (length-part at expression s0 w0 w1 stmts adds.1)
+      (state_with s0 w0 stmts) start (state_with s1 w2 stmts) (length-part at expression s0 w0 w1 stmts
+      adds.1)
       (declares ∙ ap (λ (n : List ℕ). behind_part (variable n x k) start) names
       ∙ ap (λ (x : CType). behind_part (variable called x k) start) types
       ∙ ap (λ (k : Shape). behind_part (variable called type k) start) shapes)
 
   -- of a prototype: its length is looked at
   pub looked-is : (scope : Scope) (w u : Work) (stmts : List StmtTree)
-      → at_place scope u stmts
+      → state_with scope u stmts
       ≡ behind_part (check_length at (param_length is_main at p.length scope w.tally.calls))
-      (at_place scope w stmts)
-      → at_place scope u stmts ≡ behind_part (declaring_param is_main false at t p) (at_place scope w stmts)
+      (state_with scope w stmts)
+      → state_with scope u stmts ≡ behind_part (declaring_param is_main false at t p) (state_with scope w
+      stmts)
   unfolding behind_part
   looked-is scope w u stmts checked = checked
 
@@ -110,8 +113,8 @@ pub faults-are : (at : At) (t : Option CType) (number : ℕ) (name : TypeName) (
     (w : Work) (mid new : Tally) (stmts : List StmtTree) → tag ≡ tag_of (words_of name)
     → mid ≡ with_faults w.tally (void_faults t at ++ limit_faults parameter_limit number at)
     → new ≡ with_faults mid (tag_faults scope tag)
-    → at_place scope (record w { tally = new }) stmts
-    ≡ behind_part (param_faults at t number name) (at_place scope w stmts)
+    → state_with scope (record w { tally = new }) stmts
+    ≡ behind_part (param_faults at t number name) (state_with scope w stmts)
 faults-are at t number name tag scope w mid new stmts tags own tagged =
     let fs = void_faults t at ++ limit_faults parameter_limit number at in
     let gs = tag_faults scope (tag_of (words_of name)) in
@@ -124,13 +127,14 @@ faults-are at t number name tag scope w mid new stmts tags own tagged =
 
 module _ (is_main defined : Bool) (function_at : At) (number : ℕ) (p : Parameter) (s0 s1 s2 : State) where
   -- and then its faults
-  pub param-is : (at : At) (t : Option CType) → at ≡ place_of_param function_at p → t ≡ type_named p.type_name
+  pub param-is : (at : At) (t : Option CType) → at ≡ position_of_param function_at p → t ≡ type_named
+      p.type_name
       → s1 ≡ behind_part (declaring_param is_main defined at t p) s0
       → s2 ≡ behind_part (param_faults at t number p.type_name) s1
       → s2 ≡ behind_part (add_param is_main defined function_at number p) s0
   unfolding behind_part
   param-is at t places types declares faults =
-      let place = place_of_param function_at p in let type = type_named p.type_name in
+      let place = position_of_param function_at p in let type = type_named p.type_name in
       let own : At → Option CType → Part = λ at t. param_faults at t number p.type_name in
       and-then (declaring_param is_main defined place type p) (own place type) s0 s1 s2
       (declares ∙ ap (λ at. behind_part (declaring_param is_main defined at t p) s0) places

@@ -1,4 +1,4 @@
--- What typing has made of a file so far, and what a part of the file adds to it.
+-- What type checking has made of a file so far, and what a part of the file adds to it.
 
 use Rattle.std.specs.Prelude.{◌≡◌, ℕ, Bool, false, not, Option, None, Some, Result, Ok, Err, List, [], ◌++◌, filter, is_some, map, unwrap_or}
 use Rattle.std.specs.Global.{Vec}
@@ -12,7 +12,7 @@ use Rattle.ba_trees.specs.declared.tree.statements.FunctionEnd.{FunctionEnd}
 use Rattle.ba_tree.specs.declared.tree.Function.{Function}
 use Rattle.ba_tree.specs.declared.tree.Parts.{Parts}
 use Rattle.ba_tree.specs.declared.tree.Stmt.{Stmt}
-use Rattle.ba_statements.specs.Adding.{State, at_place, before_of, extended, no_work, with_added}
+use Rattle.ba_statements.specs.Adding.{State, state_with, before_of, extended, no_work, with_added}
 use Rattle.ba_typing.specs.Declarations.{Added, Before, Part, ◌and◌, behind, in_order}
 use Rattle.ba_typing.specs.Files.{FileAdded, FirstFault, add_externals, add_params, body_parts, declare_param, faults_of, file_of, function_tree, main_of, name_of_param, param_length, param_shape, typed_of, vars_of}
 use Rattle.ba_typing.specs.Names.{Scope, knowing, same_name}
@@ -29,12 +29,13 @@ use Rattle.ba_statements.specs.declared.work.Work.{Work}
 
 -- DECLARATIONS OF FUNCTIONS
 
--- those of this name
+-- the declarations of this name
 abbrev pub same_named : List ℕ → List Signature → List Signature
 same_named name = filter (λ (s : Signature). same_name s.name name)
 
 -- PARAMETERS
 
+-- the parameters after the first one
 abbrev pub next_params : List NextParameter → List Parameter
 next_params = map (λ (n : NextParameter). n.parameter)
 
@@ -43,8 +44,8 @@ abbrev pub is_bad : Option Length → Bool
 is_bad None = false
 is_bad (Some l) = not (is_some l.count)
 
--- a parameter of a function that is main or not, and defined or not, at this position and of this type, without
--- its faults
+-- a parameter at this position and of this type, without its faults; the flags tell whether its function is
+-- main, and whether it is defined
 abbrev pub declaring_param : Bool → Bool → At → Option CType → Parameter → Part
 declaring_param is_main defined at t p scope n =
     let l = param_length is_main at p.length scope n.calls in
@@ -72,28 +73,31 @@ GivesFunction owner result ps e scope w later u f =
 
 -- FILES
 
--- the state at a place between two parts of a file, and the functions that are defined before it
+-- the state between two parts of a file, and the functions that are defined before it
 pub record FileState : Type 0 where
   pub state : State
   pub functions : List FunctionTree
 
-abbrev pub file_place : Scope → Work → List StmtTree → Vec Function → FileState
-file_place scope work inits functions =
-    record { state = at_place scope work inits; functions = map tree_of_function functions.items }
+-- the state of a file with these initialisers and functions so far
+abbrev pub file_state_with : Scope → Work → List StmtTree → Vec Function → FileState
+file_state_with scope work inits functions =
+    record { state = state_with scope work inits; functions = map tree_of_function functions.items }
 
+-- the state of the code, with the trees of its initialisers and functions
 abbrev pub file_state : Scope → Work → Vec Stmt → Vec Function → FileState
-file_state scope work inits = file_place scope work (map tree_of_stmt inits.items)
+file_state scope work inits = file_state_with scope work (map tree_of_stmt inits.items)
 
--- the state behind what a part of the file adds
+-- the state after what a part of the file adds
 abbrev pub with_part : FileState → FileAdded → FileState
 with_part s a = record { state = extended s.state a.added; functions = s.functions ++ a.functions }
 
--- the state behind parts of a file, which stand behind so many definitions and these declarations of functions
+-- the state after parts of a file, which follow this number of definitions and these declarations of
+-- functions
 unfoldable pub behind_externals : ℕ → List External → List Signature → FileState → FileState
 behind_externals definitions xs earlier s =
     with_part s (add_externals definitions xs s.state.scope earlier (before_of s.state.work))
 
--- the answer is what there is to say of the file
+-- the answer is what is said of the file
 pub record IsTyped (f : TypedFile) (xs : List External) : Type 0 where
   pub main : f.main ≡ main_of xs
   pub globals : f.globals ≡ vars_of (file_of xs).added.entries
@@ -114,6 +118,7 @@ error_of BreakOutside at = error.BreakOutside at
 error_of CallInIndex at = error.CallInIndex at
 error_of Limit at = error.Limit at
 
+-- the answer is right, of a program whose parts are not yet known to fit together
 abbrev pub CheckedParts : List External → Result Parts TypeError → Type 0
 CheckedParts xs (Ok p) = (faults_of xs ≡ []) × (typed_of xs ≡ Some (tree_of_parts p))
 CheckedParts xs (Err (error.UnknownName at)) = FirstFault (faults_of xs) UnknownName at

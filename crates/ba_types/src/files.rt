@@ -5,7 +5,7 @@ ghost use Rattle.ba_trees.specs.declared.tree.statements.External.{External};
 ghost use Rattle.ba_statements.specs.Adding.{before_of, behind_part, state};
 ghost use Rattle.ba_typing.specs.Declarations.{in_order};
 ghost use Rattle.ba_typing.specs.Files.{Checked, add_external, add_external_form, add_externals, add_function, body_parts, params_of, vars_from};
-ghost use Rattle.ba_types.specs.Filing.{CheckedParts, GivesFunction, IsTyped, behind_externals, error_of, file_place, file_state, with_part};
+ghost use Rattle.ba_types.specs.Filing.{CheckedParts, GivesFunction, IsTyped, behind_externals, error_of, file_state_with, file_state, with_part};
 ghost use Rattle.ba_typing.specs.Names.{definition_in, main_name, type_specified};
 ghost use Rattle.ba_tree.specs.Trees.{StmtTree, tree_of_function};
 ghost use Rattle.ba_typing.specs.declared.meanings.Signature.{Signature};
@@ -32,9 +32,9 @@ use ba_typing::names::type_specified;
 use ba_typing::text::Text;
 use std::alloc::{AllocError, Global};
 
-/// What stands in the body of a function, put behind those statements; a prototype has none.
+/// Appends the items of a function's body; a prototype has none.
 ///
-/// The one error is want of memory, which also stands for want of numbers.
+/// The only error is out of memory, also if the numbers run out.
 fn add_body<'a>(
     alloc: Global,
     end: &'a FunctionEnd,
@@ -51,7 +51,7 @@ fn add_body<'a>(
     }
 }
 
-/// The variables of the numbers from one up to another one. The one error is want of memory.
+/// The variables with the numbers from `low` on, below `high`. The only error is out of memory.
 fn vars_between(alloc: Global, low: u32, high: u32) -> Result<Vec<VarId>, AllocError>
     ensures { IfOk result (λ vars. vars.items ≡ vars_from low (high - low)) }
 {
@@ -62,9 +62,9 @@ fn vars_between(alloc: Global, low: u32, high: u32) -> Result<Vec<VarId>, AllocE
     Ok(vars)
 }
 
-/// What stands in a function, in a scope of its own: its parameters and its body.
+/// Types a function in its own scope: its parameters and its body.
 ///
-/// The one error is want of memory, which also stands for want of numbers.
+/// The only error is out of memory, also if the numbers run out.
 fn add_inside<'a>(
     alloc: Global,
     owner: Owner,
@@ -93,7 +93,7 @@ fn add_inside<'a>(
     })
 }
 
-/// A function is put behind those where it is defined. The one error is want of memory.
+/// Appends a function if it is defined. The only error is out of memory.
 fn put_function(
     functions: &mut Vec<Function>,
     is_definition: bool,
@@ -110,10 +110,10 @@ fn put_function(
     Ok(())
 }
 
-/// A function, whose name stands at this position, behind the functions that are declared before it. Nothing of what stands in it is in
-/// scope behind it.
+/// Types a function whose name is at this position, after these functions were declared. Nothing that it
+/// declares is in scope after it.
 ///
-/// The one error is want of memory, which also stands for want of numbers.
+/// The only error is out of memory, also if the numbers run out.
 fn add_function<'a>(
     alloc: Global,
     at: At,
@@ -126,8 +126,8 @@ fn add_function<'a>(
     functions: &mut Vec<Function>,
 ) -> Result<(), AllocError>
     ensures { OnOk result ((inits : List StmtTree) →
-        file_place scope.new work.new inits functions.new
-        ≡ with_part (file_place scope.old work.old inits functions.old)
+        file_state_with scope.new work.new inits functions.new
+        ≡ with_part (file_state_with scope.old work.old inits functions.old)
         (add_function at signature.now (params_of parameters.now) end.now
         scope.old earlier.now (before_of work.old))) }
 {
@@ -145,10 +145,10 @@ fn add_function<'a>(
     put_function(functions, signature.is_definition, function)
 }
 
-/// What stands behind the words that a part of a file begins with, which says this of a function, behind the functions that are declared
-/// before it.
+/// Types what follows the specifiers of an external declaration, which has this signature if it is a
+/// function's.
 ///
-/// The one error is want of memory, which also stands for want of numbers.
+/// The only error is out of memory, also if the numbers run out.
 fn add_external_form<'a>(
     alloc: Global,
     external: &'a External,
@@ -185,9 +185,9 @@ fn add_external_form<'a>(
     }
 }
 
-/// A part of a file, which says this of a function, behind the functions that are declared before it.
+/// Types an external declaration, which has this signature if it is a function's.
 ///
-/// The one error is want of memory, which also stands for want of numbers.
+/// The only error is out of memory, also if the numbers run out.
 fn add_external<'a>(
     alloc: Global,
     external: &'a External,
@@ -208,9 +208,9 @@ fn add_external<'a>(
     )
 }
 
-/// Parts of a file, behind the functions that are declared before them, which are counted on.
+/// Types external declarations, after these functions were declared, and counts the functions on.
 ///
-/// The one error is want of memory, which also stands for want of numbers.
+/// The only error is out of memory, also if the numbers run out.
 fn add_each<'a>(
     alloc: Global,
     externals: &'a [External],
@@ -236,9 +236,9 @@ fn add_each<'a>(
     Ok(())
 }
 
-/// All parts of a file.
+/// Types all external declarations.
 ///
-/// The one error is want of memory, which also stands for want of numbers.
+/// The only error is out of memory, also if the numbers run out.
 fn add_externals<'a>(
     alloc: Global,
     externals: &'a [External],
@@ -263,7 +263,7 @@ fn add_externals<'a>(
     )
 }
 
-/// The function that a run begins with, where these define it.
+/// The function `main`, if these declarations define it.
 fn main_of(functions: &Functions) -> Option<FnId>
     ensures { result ≡ option_map (λ (s : Signature). s.function)
         (definition_in functions.now main_name) }
@@ -274,7 +274,8 @@ fn main_of(functions: &Functions) -> Option<FnId>
     }
 }
 
-/// What typing makes of a file: its `main`, if it defines one, its globals, their initialisers, its functions, and what was counted.
+/// What type checking makes of a file: its `main`, if it defines one, its globals, their initialisers, its
+/// functions, and what was counted.
 #[derive(Drop)]
 pub struct TypedFile {
     pub main: Option<FnId>,
@@ -284,9 +285,9 @@ pub struct TypedFile {
     pub work: Work,
 }
 
-/// A whole file.
+/// Types a whole file.
 ///
-/// The one error is want of memory, which also stands for want of numbers.
+/// The only error is out of memory, also if the numbers run out.
 fn typed_file(alloc: Global, externals: &[External]) -> Result<TypedFile, AllocError>
     ensures { IfOk result (λ file. IsTyped file externals.now) }
 {
@@ -330,7 +331,8 @@ fn error_of(fault: Fault) -> TypeError
     }
 }
 
-/// The parts of a file's typed program, the file's first fault, or that it has neither fault nor `main`.
+/// The parts of a file's typed program; or the file's first fault; or `NoMain` if a `main` is all that is
+/// missing.
 fn verdict(file: TypedFile) -> Result<Parts, TypeError>
     ensures { (xs : List External) → IsTyped file xs → CheckedParts xs result }
 {
@@ -362,9 +364,10 @@ fn verdict(file: TypedFile) -> Result<Parts, TypeError>
     })
 }
 
-/// The parts of the typed program of a tree, the tree's first fault, or that it has neither fault nor `main`.
+/// The parts of the typed program of a tree; or the tree's first fault; or `NoMain` if a `main` is all that
+/// is missing.
 ///
-/// Beside those, the one error is want of memory, which also stands for want of numbers.
+/// The only other error is out of memory, also if the numbers run out.
 fn typed_parts(alloc: Global, program: &RawProgram) -> Result<Parts, TypeError>
     ensures { CheckedParts program.now.externals.items result }
 {
@@ -372,10 +375,11 @@ fn typed_parts(alloc: Global, program: &RawProgram) -> Result<Parts, TypeError>
     verdict(file)
 }
 
-/// The typed program of a parser's tree, or why there is none (C90 6.1.2, 6.3, 6.5 to 6.7).
+/// The typed program of a parse tree, or why there is none (C90 6.1.2, 6.3, 6.5 to 6.7).
 ///
-/// Where the tree has faults, the answer is the one whose position comes first, and of those at one position the one with the smaller
-/// number; `NoMain` comes where it has no fault and defines no `main`. `Memory` is want of memory, which also stands for want of numbers.
+/// Of several faults the first by position is answered, and at one position that with the smallest number.
+/// `NoMain` comes if there is no fault and no definition of `main`. `Memory` is out of memory, also if the
+/// numbers run out.
 pub fn check(alloc: Global, program: &RawProgram) -> Result<Program, TypeError>
     ensures { Checked program.now.externals.items result }
 {

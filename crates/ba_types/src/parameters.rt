@@ -1,12 +1,12 @@
 //! The parameters of functions (C90 6.5.4.3).
 
 ghost use Rattle.std.specs.Prelude.{◌≡◌, ◌++◌, List, Option, true, IfOk, OnOk};
-ghost use Rattle.ba_statements.specs.Adding.{AddsLength, IsLength, at_place, behind_part, plain_length};
+ghost use Rattle.ba_statements.specs.Adding.{AddsLength, IsLength, state_with, behind_part, plain_length};
 ghost use Rattle.ba_typing.specs.Declarations.{TypedLength};
 ghost use Rattle.ba_typing.specs.Faults.{limit_faults, parameter_limit, void_faults};
-ghost use Rattle.ba_typing.specs.Files.{add_param, add_params, check_length, first_at, name_of_param, param_length, param_shape, params_of, place_of_param};
+ghost use Rattle.ba_typing.specs.Files.{add_param, add_params, check_length, first_at, name_of_param, param_length, param_shape, params_of, position_of_param};
 ghost use Rattle.ba_types.specs.Filing.{declaring_param, is_bad, next_params};
-ghost use Rattle.ba_expressions.specs.Judging.{with_faults};
+ghost use Rattle.ba_expressions.specs.Inferring.{with_faults};
 ghost use Rattle.ba_typing.specs.Names.{words_of};
 ghost use Rattle.ba_tree.specs.Trees.{StmtTree};
 
@@ -26,10 +26,10 @@ use ba_typing::names::{is_void, name_of, tag_of_type, type_named};
 use ba_typing::text::Text;
 use std::alloc::{AllocError, Global};
 
-/// The greatest number of parameters.
+/// The limit on parameters of a function.
 const PARAMETER_LIMIT: u32 = 32;
 
-/// Whose parameter it is: whether of `main`, whether of a definition, and the position of the function's name.
+/// The function of a parameter: whether it is `main`, whether it is defined, and the position of its name.
 #[derive(Clone, Copy)]
 pub struct Owner {
     pub is_main: bool,
@@ -48,8 +48,8 @@ fn first_at(name: &TypeName, other: At) -> At
 }
 
 /// The position of a parameter: its name, or its first word.
-fn place_of_param(other: At, parameter: &Parameter) -> At
-    ensures { result ≡ place_of_param other parameter.now }
+fn position_of_param(other: At, parameter: &Parameter) -> At
+    ensures { result ≡ position_of_param other parameter.now }
 {
     match &parameter.name {
         None => first_at(&parameter.type_name, other),
@@ -57,7 +57,7 @@ fn place_of_param(other: At, parameter: &Parameter) -> At
     }
 }
 
-/// The name of a parameter, without bytes where it has none.
+/// The name of a parameter, without bytes if it has none.
 fn name_of_param<'a>(parameter: &'a Parameter) -> Text<'a>
     ensures { result ≡ name_of_param parameter.now.name }
 {
@@ -67,7 +67,7 @@ fn name_of_param<'a>(parameter: &'a Parameter) -> Text<'a>
     }
 }
 
-/// What a parameter holds, which has this length, if it is one of main's arrays.
+/// The shape of a parameter, which has this length if it is one of main's arrays.
 fn param_shape(is_main: bool, written: &Option<ArrayLength>, length: Option<Length>) -> Shape
     ensures { (l : Option TypedLength) → length ≡ plain_length l →
         result ≡ param_shape is_main written.now l }
@@ -82,9 +82,10 @@ fn param_shape(is_main: bool, written: &Option<ArrayLength>, length: Option<Leng
     }
 }
 
-/// The length of an array parameter of a definition at this position: its elements are counted. Only that of one of main's is looked at.
+/// The length of an array parameter of a definition at this position; its elements are counted. Only lengths
+/// in `main` are evaluated.
 ///
-/// The one error is want of memory, which also stands for want of numbers.
+/// The only error is out of memory, also if the numbers run out.
 fn add_own_length<'a>(
     alloc: Global,
     is_main: bool,
@@ -103,9 +104,9 @@ fn add_own_length<'a>(
     add_length(alloc, at, None, length, scope, work)
 }
 
-/// A parameter of a definition, at this position and of this type: it is a variable.
+/// Declares a parameter of a definition, at this position and of this type: it is a variable.
 ///
-/// The one error is want of memory, which also stands for want of numbers.
+/// The only error is out of memory, also if the numbers run out.
 fn add_own<'a>(
     alloc: Global,
     is_main: bool,
@@ -115,9 +116,9 @@ fn add_own<'a>(
     scope: &mut Scope<'a>,
     work: &mut Work,
 ) -> Result<(), AllocError>
-    ensures { OnOk result ((stmts : List StmtTree) → at_place scope.new work.new stmts
+    ensures { OnOk result ((stmts : List StmtTree) → state_with scope.new work.new stmts
         ≡ behind_part (declaring_param is_main true at t parameter.now)
-        (at_place scope.old work.old stmts)) }
+        (state_with scope.old work.old stmts)) }
 {
     let length = add_own_length(alloc, is_main, at, &parameter.length, scope, work)?;
     let variable = Variable {
@@ -129,9 +130,9 @@ fn add_own<'a>(
     add_variable(&functions, at, name, variable, scope, work)
 }
 
-/// The length of an array parameter of a prototype at this position. Only that of one of main's is looked at.
+/// The length of an array parameter of a prototype at this position. Only lengths in `main` are evaluated.
 ///
-/// The one error is want of memory, which also stands for want of numbers for calls and heights.
+/// The only error is out of memory, also if the numbers for calls or heights run out.
 fn length_of_param<'a>(
     alloc: Global,
     is_main: bool,
@@ -159,9 +160,9 @@ fn is_bad(length: Option<Length>) -> bool
     }
 }
 
-/// The length of an array parameter of a prototype at this position: a bad one is at fault.
+/// Tests the length of an array parameter of a prototype at this position; a bad one is a fault.
 ///
-/// The one error is want of memory, which also stands for want of numbers for calls and heights.
+/// The only error is out of memory, also if the numbers for calls or heights run out.
 fn check_length<'a>(
     alloc: Global,
     is_main: bool,
@@ -170,18 +171,19 @@ fn check_length<'a>(
     scope: &Scope<'a>,
     work: &mut Work,
 ) -> Result<(), AllocError>
-    ensures { OnOk result ((stmts : List StmtTree) → at_place scope.now work.new stmts
+    ensures { OnOk result ((stmts : List StmtTree) → state_with scope.now work.new stmts
         ≡ behind_part (check_length at (param_length is_main at length.now scope.now
-        work.old.tally.calls)) (at_place scope.now work.old stmts)) }
+        work.old.tally.calls)) (state_with scope.now work.old stmts)) }
 {
     let found = length_of_param(alloc, is_main, at, length, scope, &mut work.tally)?;
     work.tally.add_if(is_bad(found), Cause::BadLength, at);
     Ok(())
 }
 
-/// A parameter at this position and of this type: one of a definition is a variable, one of a prototype is looked at alone.
+/// Types a parameter at this position and of this type. That of a definition is a variable; that of a
+/// prototype is only tested.
 ///
-/// The one error is want of memory, which also stands for want of numbers.
+/// The only error is out of memory, also if the numbers run out.
 fn declare_param<'a>(
     alloc: Global,
     owner: Owner,
@@ -191,9 +193,9 @@ fn declare_param<'a>(
     scope: &mut Scope<'a>,
     work: &mut Work,
 ) -> Result<(), AllocError>
-    ensures { OnOk result ((stmts : List StmtTree) → at_place scope.new work.new stmts
+    ensures { OnOk result ((stmts : List StmtTree) → state_with scope.new work.new stmts
         ≡ behind_part (declaring_param owner.is_main owner.is_defined at t parameter.now)
-        (at_place scope.old work.old stmts)) }
+        (state_with scope.old work.old stmts)) }
 {
     if owner.is_defined {
         add_own(alloc, owner.is_main, at, t, parameter, scope, work)
@@ -202,7 +204,7 @@ fn declare_param<'a>(
     }
 }
 
-/// The faults of a parameter of this number, counted from 1, at this position and of this type.
+/// Adds the faults of parameter `number`, counted from 1, at this position and of this type.
 fn add_param_faults(at: At, t: Option<CType>, number: u32, tally: &mut Tally)
     ensures { tally.new ≡ with_faults tally.old
         (void_faults t at ++ limit_faults parameter_limit number at) }
@@ -211,9 +213,9 @@ fn add_param_faults(at: At, t: Option<CType>, number: u32, tally: &mut Tally)
     tally.add_limit(PARAMETER_LIMIT, number, at);
 }
 
-/// A parameter of this number, counted from 1 (C90 6.5.4.3): of a definition it is a variable.
+/// Types parameter `number`, counted from 1 (C90 6.5.4.3). That of a definition is a variable.
 ///
-/// The one error is want of memory, which also stands for want of numbers.
+/// The only error is out of memory, also if the numbers run out.
 fn add_param<'a>(
     alloc: Global,
     owner: Owner,
@@ -222,11 +224,11 @@ fn add_param<'a>(
     scope: &mut Scope<'a>,
     work: &mut Work,
 ) -> Result<(), AllocError>
-    ensures { OnOk result ((stmts : List StmtTree) → at_place scope.new work.new stmts
+    ensures { OnOk result ((stmts : List StmtTree) → state_with scope.new work.new stmts
         ≡ behind_part (add_param owner.is_main owner.is_defined owner.at number parameter.now)
-        (at_place scope.old work.old stmts)) }
+        (state_with scope.old work.old stmts)) }
 {
-    let at = place_of_param(owner.at, parameter);
+    let at = position_of_param(owner.at, parameter);
     let t = type_named(&parameter.type_name);
     declare_param(alloc, owner, at, t, parameter, scope, work)?;
     add_param_faults(at, t, number, &mut work.tally);
@@ -234,9 +236,9 @@ fn add_param<'a>(
     Ok(())
 }
 
-/// The parameters behind the first one.
+/// Types the parameters after the first one.
 ///
-/// The one error is want of memory, which also stands for want of numbers.
+/// The only error is out of memory, also if the numbers run out.
 fn add_next_params<'a>(
     alloc: Global,
     owner: Owner,
@@ -244,10 +246,10 @@ fn add_next_params<'a>(
     scope: &mut Scope<'a>,
     work: &mut Work,
 ) -> Result<(), AllocError>
-    ensures { OnOk result ((stmts : List StmtTree) → at_place scope.new work.new stmts
+    ensures { OnOk result ((stmts : List StmtTree) → state_with scope.new work.new stmts
         ≡ behind_part
         (add_params owner.is_main owner.is_defined owner.at 2 (next_params rest.now))
-        (at_place scope.old work.old stmts)) }
+        (state_with scope.old work.old stmts)) }
 {
     let mut number = 2u32;
     for next in rest {
@@ -257,9 +259,9 @@ fn add_next_params<'a>(
     Ok(())
 }
 
-/// The parameters of a function.
+/// Types the parameters of a function.
 ///
-/// The one error is want of memory, which also stands for want of numbers.
+/// The only error is out of memory, also if the numbers run out.
 pub(crate) fn add_params<'a>(
     alloc: Global,
     owner: Owner,
@@ -267,10 +269,10 @@ pub(crate) fn add_params<'a>(
     scope: &mut Scope<'a>,
     work: &mut Work,
 ) -> Result<(), AllocError>
-    ensures { OnOk result ((stmts : List StmtTree) → at_place scope.new work.new stmts
+    ensures { OnOk result ((stmts : List StmtTree) → state_with scope.new work.new stmts
         ≡ behind_part
         (add_params owner.is_main owner.is_defined owner.at 1 (params_of parameters.now))
-        (at_place scope.old work.old stmts)) }
+        (state_with scope.old work.old stmts)) }
 {
     let Some(list) = listed(parameters) else {
         return Ok(());

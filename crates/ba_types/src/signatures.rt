@@ -1,4 +1,4 @@
-//! What a file says of its functions (C90 6.5.4.3, 6.7.1).
+//! The declarations of functions in a file (C90 6.5.4.3, 6.7.1).
 
 ghost use Rattle.std.specs.Prelude.{◌≡◌, ◌+◌, ◌==◌, ◌&&◌, not, nat_lt, cond, ◌++◌, [], None, Some, option_map, length, map, IfOk, OnOk};
 ghost use Rattle.std.specs.List.{list_all, list_any};
@@ -6,7 +6,7 @@ ghost use Rattle.ba_trees.specs.declared.tree.declarations.NextParameter.{NextPa
 ghost use Rattle.ba_typing.specs.Faults.{function_limit};
 ghost use Rattle.ba_typing.specs.Files.{agrees, count_functions, definitions_of, is_definition, is_main_result, is_void_parameter, is_void_word, params_agree, params_of, params_of_list, same_param, same_params, same_result, says_params, signature_faults, signature_of, signatures, type_of_param, with_signature};
 ghost use Rattle.ba_types.specs.Filing.{same_named};
-ghost use Rattle.ba_expressions.specs.Judging.{with_faults};
+ghost use Rattle.ba_expressions.specs.Inferring.{with_faults};
 ghost use Rattle.ba_typing.specs.Names.{is_declared_in, is_main_name, same_name, words_of};
 ghost use Rattle.ba_typing.specs.declared.meanings.Signature.{Signature};
 
@@ -27,7 +27,7 @@ use ba_typing::names::{is_keyword, name_of, type_named, type_specified};
 use ba_typing::text::Text;
 use std::alloc::{AllocError, Global};
 
-/// The greatest number of functions.
+/// The limit on functions.
 const FUNCTION_LIMIT: u32 = 100;
 
 /// Whether a type's name is the one word `void`.
@@ -61,7 +61,8 @@ fn is_void_alone(list: &ParameterList) -> bool
     has_one(list) && is_void_parameter(&list.first)
 }
 
-/// The list of a function's parameters, `None` where it has none; a list that is `void` alone has none (C90 6.5.4.3).
+/// The list of a function's parameters, `None` if it has none; a list that is `void` alone has none (C90
+/// 6.5.4.3).
 pub(crate) fn listed(parameters: &Parameters) -> Option<&ParameterList>
     ensures { params_of_list (option_map (λ l. l.now) result) ≡ params_of parameters.now }
 {
@@ -87,7 +88,7 @@ fn type_of_param(parameter: &Parameter) -> ParamType
     }
 }
 
-/// The types of these parameters are put behind those. The one error is want of memory.
+/// Appends the types of these parameters. The only error is out of memory.
 fn add_types(types: &mut Vec<ParamType>, rest: &[NextParameter]) -> Result<(), AllocError>
     ensures { OnOk result (types.new.items
         ≡ types.old.items ++ map (λ (n : NextParameter). type_of_param n.parameter) rest.now) }
@@ -98,7 +99,7 @@ fn add_types(types: &mut Vec<ParamType>, rest: &[NextParameter]) -> Result<(), A
     Ok(())
 }
 
-/// The types of a function's parameters. The one error is want of memory.
+/// The types of a function's parameters. The only error is out of memory.
 fn param_types(alloc: Global, parameters: &Parameters) -> Result<Items<ParamType>, AllocError>
     ensures { IfOk result (λ types. types ≡ map type_of_param (params_of parameters.now)) }
 {
@@ -118,14 +119,15 @@ fn is_definition(end: &FunctionEnd) -> bool
     matches!(end, FunctionEnd::Body(_))
 }
 
-/// Whether a declaration says anything of the parameters: a prototype with empty parentheses does not.
+/// Whether a declaration tells the parameters; a prototype with empty parentheses does not.
 fn says_params(end: &FunctionEnd, parameters: &Parameters) -> bool
     ensures { result ≡ says_params end.now parameters.now }
 {
     is_definition(end) || parameters.list.is_some()
 }
 
-/// The types of the parameters, `None` where the declaration says nothing of them. The one error is want of memory.
+/// The types of the parameters, `None` if the declaration does not tell them. The only error is out of
+/// memory.
 fn said_types(
     alloc: Global,
     parameters: &Parameters,
@@ -141,9 +143,9 @@ fn said_types(
     Ok(Some(types))
 }
 
-/// What a part of the file says of a function, behind so many definitions; `None` where it declares variables.
+/// The signature of a declaration after this many definitions; `None` if it declares variables.
 ///
-/// The one error is want of memory.
+/// The only error is out of memory.
 pub(crate) fn signature<'a>(
     alloc: Global,
     definitions: u32,
@@ -171,8 +173,8 @@ pub(crate) fn signature<'a>(
     }
 }
 
-/// How many definitions there are behind a part of the file, which says this of a function. The one error is want of memory, which
-/// stands for want of numbers.
+/// How many definitions there are after an external declaration with this signature, if it is a function's.
+/// The only error is out of memory, also if the numbers run out.
 pub(crate) fn definitions_behind(
     definitions: u32,
     signature: &Option<Signature>,
@@ -190,7 +192,7 @@ pub(crate) fn definitions_behind(
     }
 }
 
-/// The number behind this one. The one error is want of memory, which stands for want of numbers.
+/// The next number. The only error is out of memory, also if the numbers run out.
 pub(crate) fn number_behind(number: u32) -> Result<u32, AllocError>
     ensures { IfOk result (λ more. more ≡ number + 1) }
 {
@@ -200,7 +202,7 @@ pub(crate) fn number_behind(number: u32) -> Result<u32, AllocError>
     }
 }
 
-/// What a part of the file says of a function is put behind those. The one error is want of memory.
+/// Adds the signature of an external declaration, if it is a function's. The only error is out of memory.
 pub(crate) fn add_signature<'a>(
     functions: &mut Functions<'a>,
     signature: Option<Signature<'a>>,
@@ -213,9 +215,9 @@ pub(crate) fn add_signature<'a>(
     }
 }
 
-/// The declarations of functions among these parts of a file are put behind those.
+/// Adds the declarations of functions among these external declarations.
 ///
-/// The one error is want of memory, which also stands for want of numbers.
+/// The only error is out of memory, also if the numbers run out.
 fn add_signatures<'a>(
     alloc: Global,
     externals: &'a [External],
@@ -234,7 +236,7 @@ fn add_signatures<'a>(
 
 /// All declarations of functions in a file.
 ///
-/// The one error is want of memory, which also stands for want of numbers.
+/// The only error is out of memory, also if the numbers run out.
 pub(crate) fn functions<'a>(
     alloc: Global,
     externals: &'a [External],
@@ -246,7 +248,7 @@ pub(crate) fn functions<'a>(
     Ok(functions)
 }
 
-/// Whether two results of functions are the same, where `None` is `void`.
+/// Whether two result types are the same; `None` is `void`.
 fn same_result(s: Option<CType>, t: Option<CType>) -> bool
     ensures { result ≡ same_result s t }
 {
@@ -279,7 +281,8 @@ fn same_params(params: &[ParamType], others: &[ParamType]) -> bool
     true
 }
 
-/// Whether what two declarations say of the parameters is the same, where both say anything.
+/// Whether the parameters of two declarations agree; a declaration that does not tell them agrees with every
+/// other.
 fn params_agree(params: &Option<Items<ParamType>>, others: &Option<Items<ParamType>>) -> bool
     ensures { result ≡ params_agree params.now others.now }
 {
@@ -306,7 +309,7 @@ fn is_same_name(name: &Text, other: &Text) -> bool
     name.as_bytes() == other.as_bytes()
 }
 
-/// Whether a declaration is one of the same function, and does not agree with it.
+/// Whether a declaration is one of the same function and does not agree with it.
 fn contradicts(signature: &Signature, other: &Signature) -> bool
     ensures { result
         ≡ (same_name other.now.name signature.now.name && not (agrees signature.now other.now)) }
@@ -314,7 +317,7 @@ fn contradicts(signature: &Signature, other: &Signature) -> bool
     is_same_name(&other.name, &signature.name) && !agrees(signature, other)
 }
 
-/// Whether a declaration agrees with all of these that are of its function.
+/// Whether a declaration agrees with all earlier ones of its function.
 fn agrees_with_each<'a>(signature: &Signature<'a>, earlier: &[Signature<'a>]) -> bool
     ensures { result
         ≡ list_all (agrees signature.now) (same_named signature.now.name earlier.now) }
@@ -327,7 +330,7 @@ fn agrees_with_each<'a>(signature: &Signature<'a>, earlier: &[Signature<'a>]) ->
     true
 }
 
-/// Whether a function of this name is one past the limit, behind these declarations.
+/// Whether a function of this name is past the limit, after these declarations.
 fn is_past_limit<'a>(name: &Text<'a>, earlier: &Functions<'a>) -> bool
     ensures { result ≡ nat_lt function_limit
         (count_functions earlier.now + cond (is_declared_in earlier.now name.now) 0 1) }
@@ -340,7 +343,7 @@ fn is_past_limit<'a>(name: &Text<'a>, earlier: &Functions<'a>) -> bool
     }
 }
 
-/// Whether a declaration is a definition of a function that is defined before.
+/// Whether a declaration is a second definition of its function.
 fn is_second_definition<'a>(signature: &Signature<'a>, earlier: &Functions<'a>) -> bool
     ensures { result ≡ (signature.now.is_definition && list_any
         (λ (s : Signature). s.is_definition) (same_named signature.now.name earlier.now)) }
@@ -358,7 +361,7 @@ fn is_main_result(t: Option<CType>) -> bool
     }
 }
 
-/// Whether a declaration is one of a `main` that returns what it may not.
+/// Whether a declaration is one of a `main` with a wrong result type.
 fn is_wrong_main(signature: &Signature) -> bool
     ensures { result
         ≡ (is_main_name signature.now.name && not (is_main_result signature.now.result)) }
@@ -366,7 +369,7 @@ fn is_wrong_main(signature: &Signature) -> bool
     is_main(&signature.name) && !is_main_result(signature.result)
 }
 
-/// The faults of a declared function, whose name stands at this position, behind these declarations.
+/// Adds the faults of a declared function, whose name is at this position, after these declarations.
 pub(crate) fn add_signature_faults<'a>(
     at: At,
     signature: &Signature<'a>,

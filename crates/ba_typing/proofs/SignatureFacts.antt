@@ -61,7 +61,7 @@ found_holds P (t ∷ ss) name s all h = from (is_of name t) (and_parts t.is_defi
       from true is rest h = subst P (same_Some t s h) (all.0 (is refl).0)
       from false is rest h = rest h
 
--- behind others
+-- after others
 pub found_later : (ss ts : List Signature) (name : List ℕ) → definition_in ss name ≡ None
     → definition_in (ss ++ ts) name ≡ definition_in ts name
 found_later [] ts name h = refl
@@ -90,7 +90,7 @@ found_first s ss is = ap (λ b. cond b (Some s) (definition_in ss s.name))
 
 -- NUMBERS
 
--- each has as its number how many definitions stand before, from this number on
+-- each has as its number how many definitions are before, from this number on
 abbrev pub AreNumbered : ℕ → List Signature → Type 0
 AreNumbered k [] = Unit {0}
 AreNumbered k (s ∷ ss) = (s.function.0 ≡ k) × AreNumbered (k + cond s.is_definition 1 0) ss
@@ -134,7 +134,7 @@ found_unique k (u ∷ ss) a b s t all h g same =
 
 -- ONE DEFINITION A NAME, as the faults say
 
--- no definition behind `earlier` has the name of one before it
+-- no definition after `earlier` has the name of one before it
 abbrev pub AreNew : List Signature → List Signature → Type 0
 AreNew earlier [] = Unit {0}
 AreNew earlier (s ∷ ss) = (s.is_definition ≡ true → definition_in earlier s.name ≡ None) × AreNew

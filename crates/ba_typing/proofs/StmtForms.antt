@@ -86,7 +86,7 @@ unfolding tree_of_stmt code.roll-Stmt denote.Hole.Carrier.roll
 tree-Switch stmt t on starts other body =
     fold-roll-Stmt StmtTree stmt_tree_step (Stmt-F.Switch stmt t on starts other body)
 
--- STATEMENTS THAT HOLD OTHERS, where the code has these as values of its own
+-- STATEMENTS THAT HOLD OTHERS, if the code has these as values of its own
 
 pub tree-If : (stmt : StmtId) (when : Expr) (a : Box Stmt) (s : Stmt) → a.value ≡ s
     → tree_of_stmt (code.If stmt when a None) ≡ tree.if_then stmt (tree_of_expr when) (tree_of_stmt s)

@@ -38,7 +38,7 @@ none_left [] (suc i) past = refl
 none_left (x ∷ xs) zero past = absurd (let none : ⊥ = omega (arith, past) in none)
 none_left (x ∷ xs) (suc i) past = none_left xs i (omega (arith, past))
 
--- what each item gives is put behind the others, from a place
+-- what each item gives is put after the others, from a place
 module _ {A B : Type 0} (f : A → B) (xs : List A) (i : ℕ) (old whole : List B)
     (rest : old ++ map f (drop i xs) ≡ whole) where
   pub next_mapped : (x : A) (new : List B) → i < length xs → x ≡ get_or xs i x → new ≡ old ++ f x ∷ []

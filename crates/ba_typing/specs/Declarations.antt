@@ -41,9 +41,12 @@ use Rattle.ba_typing.specs.declared.fault.Fault.{Fault}
 use Rattle.ba_typing.specs.declared.meanings.Entry.{Entry}
 use Rattle.ba_typing.specs.declared.meanings.Signature.{Signature}
 
--- WHAT DECLARATIONS AND STATEMENTS ADD, one after the other: typed statements; the names that the scope around knows from then on;
--- variables and numbered statements in the order of the text; how many enumeration constants, calls and elements of arrays; and the
--- faults in them.
+-- WHAT A PART OF THE TEXT ADDS:
+-- - its typed statements
+-- - the names that the scope around it knows afterwards
+-- - variables and numbered statements in the order of the text
+-- - how many enumeration constants, calls and array elements it has
+-- - its faults
 pub record Added : Type 0 where
   pub stmts : List StmtTree
   pub entries : List Entry
@@ -54,6 +57,7 @@ pub record Added : Type 0 where
   pub elements : ℕ
   pub faults : List Fault
 
+-- what an empty part adds
 abbrev pub nothing_added : Added
 nothing_added = record {
   stmts = [];
@@ -68,6 +72,7 @@ nothing_added = record {
 }
 
 infixr 5 ◌and◌
+-- what two parts add together, the first one before the second
 abbrev pub ◌and◌ : Added → Added → Added
 (a and b) = record {
   stmts = a.stmts ++ b.stmts;
@@ -80,7 +85,7 @@ abbrev pub ◌and◌ : Added → Added → Added
   faults = a.faults ++ b.faults;
 }
 
--- how many of each stand before
+-- how many of each come before
 pub record Before : Type 0 where
   pub variables : ℕ
   pub constants : ℕ
@@ -88,6 +93,7 @@ pub record Before : Type 0 where
   pub calls : ℕ
   pub elements : ℕ
 
+-- the counts before what follows a part that adds this
 abbrev pub behind : Before → Added → Before
 behind n a = record {
   variables = n.variables + length a.variables;
@@ -97,24 +103,28 @@ behind n a = record {
   elements = n.elements + a.elements;
 }
 
--- what a part of the text adds, in a scope and behind so many
+-- what a part of the text adds, in a scope and after these counts
 abbrev pub Part : Type 0
 Part = Scope → Before → Added
 
--- a part, and then one that knows what it declared
+-- a part, and then one in the scope that knows what the first declared
 infixr 4 ◌then◌
+-- two parts in a row: the second sees what the first declares
 abbrev pub ◌then◌ : Part → Part → Part
 (first then second) scope n = let a = first scope n in a and second (knowing a.entries scope) (behind n a)
 
+-- the part that adds nothing
 abbrev pub nothing : Part
 nothing scope n = nothing_added
 
+-- parts in a row
 abbrev pub in_order : List Part → Part
 in_order [] = nothing
 in_order (part ∷ parts) = part then in_order parts
 
 -- THE PIECES
 
+-- faults, and nothing else
 abbrev pub faults_added : List Fault → Added
 faults_added faults = record nothing_added { faults = faults }
 
@@ -122,7 +132,7 @@ faults_added faults = record nothing_added { faults = faults }
 abbrev pub next_stmt : Before → StmtId
 next_stmt n = record { 0 = n.statements + 1 }
 
--- a numbered statement of this tree, which has calls and faults in its expressions
+-- a numbered statement of this tree, with the calls and faults of its expressions
 abbrev pub numbered : Before → At → StmtKind → StmtTree → ℕ → List Fault → Added
 numbered n at k typed calls faults = record nothing_added {
   stmts = typed ∷ [];
@@ -131,7 +141,7 @@ numbered n at k typed calls faults = record nothing_added {
   faults = limit_faults statement_limit (n.statements + 1) at ++ faults;
 }
 
--- the whole of an expression: its faults, and its height at this position
+-- the faults of a whole expression, its height at this position among them
 abbrev pub whole_faults : At → Typed → List Fault
 whole_faults at e = limit_faults height_limit e.height at ++ e.faults
 
@@ -141,12 +151,12 @@ whole_faults at e = limit_faults height_limit e.height at ++ e.faults
 abbrev pub next_name : Before → ℕ
 next_name n = n.variables + n.constants + 1
 
--- a name that the file declares before, as a variable, or as a function among these
+-- a name that the file has declared before, as a variable, or as one of these functions
 abbrev pub is_declared : Scope → List Signature → List ℕ → Bool
 is_declared scope functions name = is_declared_here space.Ordinary scope name
     || ((scope.depth == 0) && is_declared_in functions name)
 
--- a variable with its name at this position, behind the functions that are declared before it
+-- a variable with its name at this position, after these functions were declared
 abbrev pub add_variable : List Signature → At → List ℕ → Variable → Part
 add_variable functions at name v scope n = record nothing_added {
   entries = record {
@@ -161,7 +171,7 @@ add_variable functions at name v scope n = record nothing_added {
 
 -- ENUMERATIONS (C90 6.5.2.2)
 
--- a tag is known from where it appears
+-- a tag is known from its appearance on
 abbrev pub add_tag : Option Token → Part
 add_tag None scope n = nothing_added
 add_tag (Some tag) scope n = record nothing_added {
@@ -169,7 +179,7 @@ add_tag (Some tag) scope n = record nothing_added {
   faults = twice_faults (is_declared_here space.Tags scope (name_of tag)) tag.at;
 }
 
--- a constant of this value with its name at this position, behind the functions that are declared before it
+-- a constant of this value with its name at this position, after these functions were declared
 abbrev pub add_constant : List Signature → At → List ℕ → ℤ → Part
 add_constant functions at name z scope n = record nothing_added {
   entries = record { name = name; depth = scope.depth; entity = entity.Constant z } ∷ [];
@@ -177,23 +187,27 @@ add_constant functions at name z scope n = record nothing_added {
   faults = twice_faults (is_declared scope functions name) at ++ limit_faults variable_limit (next_name n) at;
 }
 
--- A value that is written; its height is looked at where the constant's name stands. A value at fault counts as one that is not written.
+-- A written value. Its height is tested at the constant's name. A value at fault counts as one that is not
+-- written.
 abbrev pub value_faults : At → Typed → List Fault
 value_faults at e = whole_faults at e ++ fault_if (not (is_some (constant_value I32 e))) WrongKind e.first
 
+-- the value that the text gives an enumeration constant, if it gives one
 abbrev pub written_value : Enumerator → Option Typing
 written_value e = option_map (λ (v : EnumeratorValue). typed_conditional v.value) e.value
 
--- the value of a constant without a written one: 0 for the first one, and else one more than that of the one before it
+-- the value of a constant without a written one: 0 for the first constant, and else one more than the
+-- constant before it
 abbrev pub following : Option ℤ → ℤ
 following None = pos 0
 following (Some z) = converted I32 (z +ℤ pos 1)
 
--- a constant's value, where that of the one before it is `last`
+-- a constant's value, if the constant before it has the value `last`
 abbrev pub enumerator_value : Option ℤ → Option Typed → ℤ
 enumerator_value last None = following last
 enumerator_value last (Some e) = unwrap_or (constant_value I32 e) (following last)
 
+-- the faults and calls of a written value
 abbrev pub add_written : At → Option Typed → Part
 add_written at None scope n = nothing_added
 add_written at (Some e) scope n = record (faults_added (value_faults at e)) { calls = e.calls }
@@ -204,21 +218,25 @@ add_enumerator functions last e v =
     add_written e.name.at v
     then add_constant functions e.name.at (name_of e.name) (enumerator_value last v)
 
+-- the constants of a list, each by its value or as one more than the last
 abbrev pub add_enumerator_list : List Signature → Option ℤ → List Enumerator → Part
 add_enumerator_list functions last [] scope n = nothing_added
 add_enumerator_list functions last (e ∷ es) scope n =
     let v = option_map (λ (typing : Typing). typing scope n.calls) (written_value e) in
     (add_enumerator functions last e v then add_enumerator_list functions (Some (enumerator_value last v)) es) scope n
 
+-- the enumeration constants of a list, at least one
 abbrev pub enumerators_in : EnumeratorList → List Enumerator
 enumerators_in l = l.first ∷ map (λ (n : NextEnumerator). n.enumerator) l.rest.items
 
--- Words of a type with a list declare its tag and its constants, the first of which is 0; those without one name a tag that is known.
+-- The specifiers of an enumerated type. With a list they declare its tag and its constants, the first of
+-- which is 0 by default. Without a list they name a known tag.
 abbrev pub add_listed : List Signature → Option Token → Option Enumerators → Part
 add_listed functions tag None scope n = faults_added (tag_faults scope tag)
 add_listed functions tag (Some e) scope n =
     (add_tag tag then add_enumerator_list functions None (enumerators_in e.list)) scope n
 
+-- what the words of a declaration add: a tag and enumeration constants
 abbrev pub add_specifiers : List Signature → Specifiers → Part
 add_specifiers functions s = add_listed functions (tag_of (words_of_declaration s)) s.enumerators
 
@@ -228,23 +246,27 @@ add_specifiers functions s = add_listed functions (tag_of (words_of_declaration 
 abbrev pub is_length : ℤ → Bool
 is_length z = int_le (pos 1) z && int_le z (pos 256)
 
+-- the value as a length, if it is 1 to 256
 abbrev pub length_in_range : Option ℤ → Option ℕ
 length_in_range None = None
 length_in_range (Some z) = cond (is_length z) (Some (unsigned_abs z)) None
 
--- a written length, None where it is not constant, traps or is out of range
+-- a written length, None if it is not constant, traps or is out of range
 abbrev pub written_length : Typed → Option ℕ
 written_length e = cond e.is_constant (length_in_range e.value) None
 
 -- THE VALUES OF AN INITIALISER (C90 6.5.7)
 
+-- the values between the braces
 abbrev pub braced_values : Braced → List Typing
 braced_values b = typed_conditional b.first ∷ map typed_next b.rest.items
 
+-- the values of an initialiser
 abbrev pub values_of : Initialiser → List Typing
 values_of (initialiser.Expression assign e) = typed_conditional e ∷ []
 values_of (initialiser.Braced assign b) = braced_values b
 
+-- the initialiser has braces
 abbrev pub has_braces : Initialiser → Bool
 has_braces (initialiser.Expression assign e) = false
 has_braces (initialiser.Braced assign b) = true
@@ -255,31 +277,35 @@ typed_each scope calls [] = []
 typed_each scope calls (typing ∷ typings) = let e = typing scope calls in
     e ∷ typed_each scope (calls + e.calls) typings
 
+-- how many calls are in these expressions
 abbrev pub calls_in : List Typed → ℕ
 calls_in = sum_by (λ (e : Typed). e.calls)
 
--- a value of an initialiser; a global's is constant
+-- a value of an initialiser; that of a global is constant
 abbrev pub initial_faults : At → Bool → Typed → List Fault
 initial_faults at is_global e = whole_faults at e ++ fault_if (is_global && not e.is_constant) WrongKind at
 
+-- the tree of the first expression, converted to the type
 abbrev pub first_tree : CType → List Typed → ExprTree
 first_tree t [] = placeholder
 first_tree t (e ∷ es) = tree_as t e
 
--- of an array all values, of a variable its one
+-- the values of an array, or the one value of a variable
 abbrev pub init_tree : StmtId → VarId → CType → Bool → List Typed → StmtTree
 init_tree stmt v t true es = tree.init_array stmt v (map (tree_as t) es)
 init_tree stmt v t false es = tree.init stmt v (first_tree t es)
 
 -- DECLARATORS (C90 6.5.4)
 
--- the length of an array: how many elements, None where it is bad; whether it is written; and what its expression adds
+-- the length of an array: how many elements, None if it is bad; whether it is written; and what its
+-- expression adds
 pub record TypedLength : Type 0 where
   pub count : Option ℕ
   pub is_written : Bool
   pub calls : ℕ
   pub faults : List Fault
 
+-- the length that an expression gives
 abbrev pub typed_written_length : At → Typed → TypedLength
 typed_written_length at e = record {
   count = written_length e;
@@ -289,6 +315,7 @@ typed_written_length at e = record {
       whole_faults at e;
 }
 
+-- the length of an array that is written without one: the count of its values
 abbrev pub typed_counted_length : Option ℕ → TypedLength
 typed_counted_length values = record {
   count = length_in_range (option_map pos values);
@@ -298,11 +325,12 @@ typed_counted_length values = record {
   faults = [];
 }
 
--- of an array at this position with so many initialisers, if it has any
+-- the length of an array at this position, with the number of its initialisers, if it has any
 abbrev pub typed_length : At → Option ℕ → Option Conditional → Scope → ℕ → TypedLength
 typed_length at values None scope calls = typed_counted_length values
 typed_length at values (Some e) scope calls = typed_written_length at (typed_conditional e scope calls)
 
+-- the length of an array, None if the variable is no array
 abbrev pub typed_array_length : At → Option ℕ → Scope → ℕ → Option ArrayLength → Option TypedLength
 typed_array_length at values scope calls None = None
 typed_array_length at values scope calls (Some l) = Some (typed_length at values l.length scope calls)
@@ -312,6 +340,7 @@ abbrev pub length_faults : Before → At → Option ℕ → List Fault
 length_faults n at None = fault BadLength at
 length_faults n at (Some count) = limit_faults element_limit (n.elements + count) at
 
+-- the faults, calls and elements of a length
 abbrev pub add_length : At → Option TypedLength → Part
 add_length at None scope n = nothing_added
 add_length at (Some l) scope n = record nothing_added {
@@ -320,20 +349,22 @@ add_length at (Some l) scope n = record nothing_added {
   faults = length_faults n at l.count ++ l.faults;
 }
 
+-- the shape of a variable: a value, or an array of its length (1 for a bad one)
 abbrev pub shape_of : Option TypedLength → Shape
 shape_of None = Value
 shape_of (Some l) = Array (unwrap_or l.count 1)
 
--- the length that an initialiser may not exceed: a good one that is written
+-- the written length that an initialiser may not exceed, if it is good
 abbrev pub written_count : Option TypedLength → Option ℕ
 written_count None = None
 written_count (Some l) = cond l.is_written l.count None
 
+-- a count is larger than a length that is known
 abbrev pub exceeds : Option ℕ → ℕ → Bool
 exceeds None count = false
 exceeds (Some most) count = nat_lt most count
 
--- Braces stand for an array and for nothing else, and have no more values than the array elements.
+-- Braces are for an array, and only for an array, and have at most as many values as elements.
 abbrev pub add_initialiser : At → VarId → CType → Option TypedLength → Initialiser → Part
 add_initialiser at v t l init scope n = let es = typed_each scope n.calls (values_of init) in
     numbered n at kind.Initialiser (init_tree (next_stmt n) v t (is_some l) es) (calls_in es)
@@ -341,18 +372,21 @@ add_initialiser at v t l init scope n = let es = typed_each scope n.calls (value
     ++ fault_if (exceeds (written_count l) (length es)) WrongCount at
     ++ flat_map (initial_faults at (scope.depth == 0)) es)
 
+-- what an initialiser adds, if there is one
 abbrev pub add_optional_initialiser : At → VarId → CType → Option TypedLength → Option Initialiser → Part
 add_optional_initialiser at v t l None = nothing
 add_optional_initialiser at v t l (Some init) = add_initialiser at v t l init
 
--- a local variable is declared where the text does it, a global before the run
+-- a local variable is declared at its place in the text, a global before the run
 abbrev pub add_declare : VarId → Part
 add_declare v scope n = record nothing_added { stmts = cond (scope.depth == 0) [] (tree.declare v ∷ []) }
 
+-- how many values an initialiser has, if there is one
 abbrev pub count_of_values : Option Initialiser → Option ℕ
 count_of_values = option_map (λ init. length (values_of init))
 
--- A declarator, of a type; `void` is at fault. The variable is known from the end of its declarator on, in its initialiser too.
+-- A declarator of a type; `void` is at fault. The variable is known from the end of its declarator on, in its
+-- initialiser too.
 abbrev pub add_declarator : List Signature → Option CType → Declarator → Part
 add_declarator functions t d scope n =
     let at = d.name.at in
@@ -365,16 +399,17 @@ add_declarator functions t d scope n =
     then add_optional_initialiser at v s l d.initialiser
     then (λ scope n. faults_added (void_faults t at))) scope n
 
--- those of a list, of a type, behind functions that are declared before them
+-- the declarators of a list, of one type, after these functions were declared
 abbrev pub add_declarators : List Signature → Option CType → Declarators → Part
 add_declarators functions t ds = in_order (map
     (λ (l : ListedDeclarator). add_declarator functions t l.declarator) ds.all.items)
 
+-- what declarators add, if there are some
 abbrev pub add_optional_declarators : List Signature → Option CType → Option Declarators → Part
 add_optional_declarators functions t None = nothing
 add_optional_declarators functions t (Some ds) = add_declarators functions t ds
 
--- a declaration of a file or of a block, behind these functions
+-- a declaration of a file or of a block, after these functions were declared
 abbrev pub add_declaration : List Signature → Specifiers → Option Declarators → Part
 add_declaration functions s ds =
     add_specifiers functions s then add_optional_declarators functions (type_specified s) ds

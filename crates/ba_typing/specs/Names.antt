@@ -40,35 +40,42 @@ use Rattle.ba_typing.specs.declared.meanings.Space.{Space}
 use Rattle.ba_typing.specs.declared.meanings.Space.TheVariants as space
 use Rattle.ba_typing.specs.contracts.meanings.SpacePartialEq.TheImpl.{eq-value}
 
--- TOKENS. A token that isn't of the kind that its place in the tree asks for stands in no tree that the grammar has.
+-- TOKENS. No tree of the grammar has a token of another kind than its place asks for.
 
+-- the name that a token is, empty for another token
 abbrev pub name_of_kind : TokenKind → List ℕ
 name_of_kind (kind.Name name) = name
 name_of_kind _ = []
 
+-- the name that a token is, empty for another token
 abbrev pub name_of : Token → List ℕ
 name_of token = name_of_kind token.kind
 
+-- the punctuator that a token is
 abbrev pub punct_of_kind : TokenKind → Option Punct
 punct_of_kind (kind.Punct p) = Some p
 punct_of_kind _ = None
 
+-- the punctuator that a token is
 abbrev pub punct_of : Token → Option Punct
 punct_of token = punct_of_kind token.kind
 
 -- TYPE NAMES (C90 6.5.2): the type that the words name, None for `void`. An enumerated type is I32.
 
+-- the keyword is among the words
 abbrev pub has_word : List Token → Keyword → Bool
 has_word words k = list_any (λ token. word k (class_of token)) words
 
+-- the type by whether it is unsigned
 abbrev pub by_sign : Bool → CType → CType → CType
 by_sign is_unsigned signed unsigned = cond is_unsigned unsigned signed
 
--- by the words that tell it
+-- by the words that decide the type
 abbrev pub type_of_told : TypeWords → Option CType
 type_of_told w = cond w.is_void None (Some (cond w.is_char (by_sign w.is_unsigned I8 U8)
     (cond w.is_short (by_sign w.is_unsigned I16 U16) (by_sign w.is_unsigned I32 U32))))
 
+-- the type that words name (C90 6.5.2), None for `void`
 abbrev pub type_of_words : List Token → Option CType
 type_of_words words = type_of_told (record {
   is_void = has_word words keyword.Void;
@@ -77,9 +84,11 @@ type_of_words words = type_of_told (record {
   is_unsigned = has_word words keyword.Unsigned;
 })
 
+-- the words of a type name
 abbrev pub words_of : TypeName → List Token
 words_of name = name.words.items
 
+-- the type that a type name names, None for `void`
 abbrev pub type_named : TypeName → Option CType
 type_named name = type_of_words (words_of name)
 
@@ -87,29 +96,34 @@ type_named name = type_of_words (words_of name)
 abbrev pub words_of_declaration : Specifiers → List Token
 words_of_declaration s = s.words.items ++ s.behind.items
 
+-- the type that the words of a declaration name, None for `void`
 abbrev pub type_specified : Specifiers → Option CType
 type_specified s = type_of_words (words_of_declaration s)
 
--- the tag behind `enum`, where one stands there (C90 6.5.2.3)
+-- the tag after `enum`, if one is there (C90 6.5.2.3)
 abbrev pub is_name : Token → Bool
 is_name token = only class.Name (class_of token)
 
+-- the first name among the words
 abbrev pub first_name : List Token → Option Token
 first_name [] = None
 first_name (w ∷ ws) = cond (is_name w) (Some w) None
 
+-- the tag after the word `enum`, if there is one
 abbrev pub tag_of : List Token → Option Token
 tag_of [] = None
 tag_of (w ∷ ws) = cond (word keyword.Enum (class_of w)) (first_name ws) (tag_of ws)
 
 -- OPERATORS (C90 6.3.3.3, 6.3.5 to 6.3.12). Unary `+` has none.
 
+-- the operator of a sign before an operand; None for a plus sign, which only promotes
 abbrev pub unary_operator : Option Punct → Option UnOp
 unary_operator (Some punct.Minus) = Some Neg
 unary_operator (Some punct.Tilde) = Some Flip
 unary_operator (Some punct.Exclamation) = Some IsZero
 unary_operator _ = None
 
+-- the operator of a sign between two operands
 abbrev pub binary_operator : Option Punct → Operator
 binary_operator (Some punct.Star) = operator.Value Mul
 binary_operator (Some punct.Slash) = operator.Value Div
@@ -148,16 +162,19 @@ changing_operator _ = None
 
 -- JUMPS without a value, by their keyword (C90 6.6.6)
 
+-- which jump a keyword is
 abbrev pub jump_of_kind : TokenKind → Jump
 jump_of_kind (kind.Keyword keyword.Break) = jump.Break
 jump_of_kind (kind.Keyword keyword.Continue) = jump.Continue
 jump_of_kind _ = jump.Return
 
+-- which jump a token is: `break`, `continue`, else `return`
 abbrev pub jump_of : Token → Jump
 jump_of token = jump_of_kind token.kind
 
 -- SCOPES (C90 6.1.2.1)
 
+-- both are the same name
 abbrev pub same_name : List ℕ → List ℕ → Bool
 same_name = pointwise nat_eq
 
@@ -165,23 +182,30 @@ same_name = pointwise nat_eq
 abbrev pub main_name : List ℕ
 main_name = 0x6d ∷ 0x61 ∷ 0x69 ∷ 0x6e ∷ []
 
+-- the name is `main`
 abbrev pub is_main_name : List ℕ → Bool
 is_main_name = same_name main_name
 
--- outside of loops and `switch`es; in a loop; in a `switch`, where a `continue` belongs to what is around it
+-- the jumps outside of loops and `switch`es; in a loop; in a `switch`, where a `continue` belongs to the loop
+-- around it
 abbrev pub no_exits : Exits
 no_exits = record { breaks = false; continues = false }
 
+-- in a loop both `break` and `continue` may come
 abbrev pub exits_of_loop : Exits
 exits_of_loop = record { breaks = true; continues = true }
 
+-- in a `switch` a `break` may come, and a `continue` if one may come around it
 abbrev pub exits_of_switch : Exits → Exits
 exits_of_switch around = record around { breaks = true }
 
--- What an expression or statement finds around it. `functions` are all declarations of functions in the file, since a function is known
--- in the whole file. `known` are the variables, constants and tags that are in scope, in the order of their declarations: a later one hides those of its
--- name before it. `depth` counts the scopes inside the file's; parameters and the outermost block are one scope. `exits` says which
--- jumps are accepted. `result` is the type that the function around returns, None for `void`.
+-- What is known around an expression or statement:
+-- - `functions`: all declarations of functions in the file, since a function is known in the whole file
+-- - `known`: the variables, constants and tags in scope, in the order of their declarations; a later one
+--   hides earlier ones of its name
+-- - `depth`: how many scopes are inside the file's; parameters and the outermost block are one scope
+-- - `exits`: which jumps are accepted
+-- - `result`: the type of the function around, None for `void`
 pub record Scope : Type 0 where
   pub functions : List Signature
   pub known : List Entry
@@ -199,16 +223,19 @@ fresh_scope functions = record {
   result = None;
 }
 
+-- a scope in which these entries are declared too
 abbrev pub knowing : List Entry → Scope → Scope
 knowing entries scope = record scope { known = scope.known ++ entries }
 
--- a block's scope; the body of a loop, of a `switch`
+-- a block's scope; that of a loop's body; that of a `switch`'s body
 abbrev pub inner : Scope → Scope
 inner scope = record scope { depth = scope.depth + 1 }
 
+-- the scope in the body of a loop
 abbrev pub looping : Scope → Scope
 looping scope = record scope { exits = exits_of_loop }
 
+-- the scope in the body of a `switch`
 abbrev pub switching : Scope → Scope
 switching scope = record scope { exits = exits_of_switch scope.exits }
 
@@ -218,9 +245,11 @@ space_of (entity.Variable o) = space.Ordinary
 space_of (entity.Constant z) = space.Ordinary
 space_of entity.Tag = space.Tags
 
+-- both are the same name space (C90 6.1.2.3)
 abbrev pub same_space : Space → Space → Bool
 same_space = eq-value.it
 
+-- the entry has this name, in this name space
 abbrev pub is_named : Space → List ℕ → Entry → Bool
 is_named within name e = same_name e.name name && same_space (space_of e.entity) within
 
@@ -229,10 +258,11 @@ abbrev pub last_entry : Space → List ℕ → List Entry → Option Entry → O
 last_entry within name [] last = last
 last_entry within name (e ∷ es) last = last_entry within name es (cond (is_named within name e) (Some e) last)
 
+-- a function of this name is declared
 abbrev pub is_declared_in : List Signature → List ℕ → Bool
 is_declared_in functions name = list_any (λ (s : Signature). same_name s.name name) functions
 
--- a name's definition as a function, the first one
+-- the first definition of a function of this name
 abbrev pub definition_in : List Signature → List ℕ → Option Signature
 definition_in [] name = None
 definition_in (s ∷ ss) name = cond (s.is_definition && same_name s.name name) (Some s) (definition_in ss name)
@@ -241,15 +271,18 @@ definition_in (s ∷ ss) name = cond (s.is_definition && same_name s.name name) 
 abbrev pub function_or_unknown : Bool → Meaning
 function_or_unknown is_declared = cond is_declared meaning.Function meaning.Unknown
 
+-- what an entry means as a name; a tag means nothing there
 abbrev pub meaning_of_entity : Entity → Meaning
 meaning_of_entity (entity.Variable o) = meaning.Variable o
 meaning_of_entity (entity.Constant z) = meaning.Constant z
 meaning_of_entity entity.Tag = meaning.Unknown
 
+-- the meaning of an entry, or the other one without an entry
 abbrev pub meaning_or : Option Entry → Meaning → Meaning
 meaning_or None other = other
 meaning_or (Some e) other = meaning_of_entity e.entity
 
+-- what a name means: its newest entry in scope, else a function, else nothing
 abbrev pub meaning_of : Scope → List ℕ → Meaning
 meaning_of scope name =
     meaning_or (last_entry space.Ordinary name scope.known None) (function_or_unknown (is_declared_in scope.functions name))
@@ -259,9 +292,10 @@ abbrev pub is_declared_here : Space → Scope → List ℕ → Bool
 is_declared_here within scope name = list_any (λ (e : Entry). is_named within name e && (e.depth == scope.depth))
     scope.known
 
--- a tag is declared in a scope around
+-- a tag is declared in this scope or one around it
 abbrev pub is_tag_known : Scope → List ℕ → Bool
 is_tag_known scope tag = is_some (last_entry space.Tags tag scope.known None)
 
+-- the variable is an array
 abbrev pub is_array_object : Object → Bool
 is_array_object o = is_array_shape o.variable.shape

@@ -52,19 +52,20 @@ use Rattle.ba_typing.specs.declared.meanings.Meaning.TheVariants as meaning
 
 -- ASSIGNMENTS, STEPS AND CALLS (C90 6.3.16, 6.3.2.4, 6.3.3.1, 6.3.2.2)
 
--- What is assigned to: as an expression; its index, None for a variable; and which variable or array it is.
+-- What is assigned to: the expression; its index, None for a variable; and the variable or array.
 pub record TypedTarget : Type 0 where
   pub expression : Typed
   pub index : Option Typed
   pub var : VarId
 
--- the variable of a name; where the name is at fault, anything
+-- the variable of a name; any number if the name is at fault
 abbrev pub var_of : Meaning → VarId
 var_of meaning.Unknown = record { 0 = 0 }
 var_of meaning.Function = record { 0 = 0 }
 var_of (meaning.Variable e) = e.var
 var_of (meaning.Constant z) = record { 0 = 0 }
 
+-- the left side of an assignment: a variable, or an element with its index
 abbrev pub typed_target : At → List ℕ → Option Typing → Scope → ℕ → TypedTarget
 typed_target at name None scope calls = let m = meaning_of scope name in
     record {
@@ -76,11 +77,12 @@ typed_target at name (Some typing) scope calls = let m = meaning_of scope name i
     typing scope calls in
     record { expression = typed_element at m index; index = Some index; var = array_of m }
 
+-- the index of a left side, if there is one
 abbrev pub index_typing : Option Index → Option Typing
 index_typing None = None
 index_typing (Some i) = Some (typed_conditional i.value.value)
 
--- The index is within the limit on heights, and has no call where the element is changed by an operator.
+-- The index is within the limit on heights. It has no call if an operator changes the element.
 abbrev pub index_faults : At → At → Bool → Option Typed → List Fault
 index_faults at name_at changes None = []
 index_faults at name_at changes (Some index) =
@@ -92,18 +94,21 @@ abbrev pub changed : Option BinOp → Typed → Typed → Typed
 changed None target e = e
 changed (Some op) target e = typed_value op target e
 
+-- an assignment to a variable, or a store to an element
 abbrev pub assign_tree : StmtId → VarId → ExprTree → Option Typed → StmtTree
 assign_tree stmt v e None = tree.assign stmt v e
 assign_tree stmt v e (Some index) = tree.store stmt v (tree_as (promoted index.t) index) e
 
+-- an assignment to the target, with the value converted to its type
 abbrev pub assigned_tree : StmtId → TypedTarget → Typed → StmtTree
 assigned_tree stmt target e = assign_tree stmt target.var (tree_as target.expression.t e) target.index
 
+-- the kind of a statement that changes a variable or an element
 abbrev pub kind_of_target : Option Typed → StmtKind
 kind_of_target None = kind.Assignment
 kind_of_target (Some index) = kind.Store
 
--- an assignment whose statement begins at `at` and whose variable's name stands at `name_at`
+-- an assignment whose statement begins at `at` and whose variable's name is at `name_at`
 abbrev pub add_assignment : At → Target → Option BinOp → Typing → Part
 add_assignment at target op typing scope n =
     let name_at = target.name.at in
@@ -119,15 +124,18 @@ add_assignment at target op typing scope n =
 abbrev pub one : At → Typing
 one at scope calls = typed_constant at I32 (pos 1)
 
+-- a call statement
 abbrev pub add_call : At → List ℕ → List Typing → Part
 add_call at name typings scope n = let c = typed_call false at name typings scope n.calls in
     numbered n at kind.Call (tree.call_stmt (next_stmt n) c.call c.function (trees_of_args c.args))
     (1 + calls_in (expressions_of_args c.args))
     (c.faults ++ flat_map (whole_faults at) (expressions_of_args c.args))
 
+-- the operator of a compound assignment, `++` or `--`; None for a plain assignment
 abbrev pub operator_at : Token → Option BinOp
 operator_at token = changing_operator (punct_of token)
 
+-- a simple statement: an assignment, `++`, `--` or a call
 abbrev pub add_simple : Simple → Part
 add_simple (form.Assign target operator value) =
     add_assignment target.name.at target (operator_at operator) (typed_conditional value)
@@ -138,11 +146,13 @@ add_simple (form.PrefixStep operator target) =
 add_simple (form.Call name opener arguments closer) =
     add_call name.at (name_of name) (typed_arguments arguments)
 
+-- simple statements that are separated by commas
 abbrev pub add_simples : Simples → Part
 add_simples s = in_order (map (λ (l : ListedSimple). add_simple l.simple) s.all.items)
 
--- CONDITIONS (C90 6.6.4, 6.6.5): a statement that stands at the first token of its expression
+-- CONDITIONS (C90 6.6.4, 6.6.5): a condition is a statement at the first token of its expression
 
+-- the condition of an `if` or loop, which has a number but no tree of its own
 abbrev pub add_test : At → Typed → Part
 add_test at e scope n = record (numbered n at kind.Condition tree.break_loop e.calls (whole_faults at e))
     { stmts = [] }
@@ -152,7 +162,7 @@ abbrev pub add_controlling : At → Typed → Part
 add_controlling at e scope n = record (numbered n at kind.Switch tree.break_loop e.calls (whole_faults at e))
     { stmts = [] }
 
--- a statement that holds others: what they declare is not known behind it
+-- a statement that holds others; what they declare is not known after it
 abbrev pub enclosing : StmtTree → Added → Added
 enclosing typed a = record a { stmts = typed ∷ []; entries = [] }
 
@@ -161,14 +171,17 @@ abbrev pub one_of : List StmtTree → StmtTree
 one_of [] = tree.block tree.no_stmts
 one_of (s ∷ ss) = s
 
+-- a part that may be missing
 abbrev pub optional_part : Option Part → Part
 optional_part None = nothing
 optional_part (Some part) = part
 
+-- the tree of an `else` branch, if there is one
 abbrev pub else_tree : Option Part → List StmtTree → Option StmtTree
 else_tree None stmts = None
 else_tree (Some part) stmts = Some (one_of stmts)
 
+-- an `if`: its condition, then both branches
 abbrev pub add_if : Typing → Part → Option Part → Part
 add_if test holds fails scope n =
     let w = test scope n.calls in
@@ -177,6 +190,7 @@ add_if test holds fails scope n =
     let b = optional_part fails scope (behind n (c and a)) in
     enclosing (tree.if_tree (next_stmt n) w.tree (one_of a.stmts) (else_tree fails b.stmts)) (c and a and b)
 
+-- a `while`: its condition, then its body
 abbrev pub add_while : Typing → Part → Part
 add_while test body scope n =
     let w = test scope n.calls in
@@ -184,7 +198,7 @@ add_while test body scope n =
     let a = body (looping scope) (behind n c) in
     enclosing (tree.while_loop (next_stmt n) w.tree (one_of a.stmts)) (c and a)
 
--- the condition of a `do` stands behind its body
+-- the condition of a `do` is after its body
 abbrev pub add_do : Typing → Part → Part
 add_do test body scope n =
     let a = body (looping scope) n in
@@ -194,12 +208,13 @@ add_do test body scope n =
 
 -- THE HEAD OF A `for` (C90 6.6.5.3)
 
--- a declaration in the head has a scope of its own
+-- a declaration in the head has its own scope
 abbrev pub for_scope : ForFirst → Scope → Scope
 for_scope (first.Declaration name declarators) scope = inner scope
 for_scope (first.Simples s) scope = scope
 for_scope first.Nothing scope = scope
 
+-- the first part of a `for` head: a declaration or simple statements
 abbrev pub add_first : ForFirst → Part
 add_first (first.Declaration name declarators) =
     (λ scope n. faults_added (tag_faults scope (tag_of (words_of name))))
@@ -207,18 +222,21 @@ add_first (first.Declaration name declarators) =
 add_first (first.Simples s) = add_simples s
 add_first first.Nothing = nothing
 
+-- the last part of a `for` head
 abbrev pub add_step : Option Simples → Part
 add_step None = nothing
 add_step (Some s) = add_simples s
 
--- an absent condition is the constant 1, and stands at the second semicolon
+-- an absent condition is the constant 1 at the second semicolon
 abbrev pub for_test_or : At → Option Conditional → Typing
 for_test_or at None = one at
 for_test_or at (Some e) = typed_conditional e
 
+-- the condition of a `for`
 abbrev pub for_test : ForHead → Typing
 for_test head = for_test_or head.second_semicolon.at head.test
 
+-- a `for`: its first part, its condition, its last part, its body
 abbrev pub add_for : ForHead → Part → Part
 add_for head body outside n =
     let scope = for_scope head.first outside in
@@ -234,54 +252,62 @@ add_for head body outside n =
 
 -- SWITCHES (C90 6.6.4.2)
 
+-- no label yet
 abbrev pub no_labels : Labels
 no_labels = record { starts = []; other = None }
 
+-- a label has this value
 abbrev pub has_value : List Start → ℤ → Bool
 has_value starts z = list_any (λ (s : Start). int_eq s.value z) starts
 
--- a value that an earlier label has, or that there is none
+-- a label's value is that of an earlier label, or a `default` is the second one
 abbrev pub label_faults : Labels → Option ℤ → At → List Fault
 label_faults labels None at = fault WrongKind at
 label_faults labels (Some z) at = fault_if (has_value labels.starts z) Twice at
 
+-- labels with one more of this value, if it is known, before statement `at`
 abbrev pub with_start : Labels → Option ℤ → ℕ → Labels
 with_start labels None at = labels
 with_start labels (Some z) at = record labels { starts = labels.starts ++ record { value = z; at = at } ∷ [] }
 
--- the labels behind a part of the text, and what it adds
+-- the labels after a part of the text, and what it adds
 pub record Labelled : Type 0 where
   pub labels : Labels
   pub added : Added
 
--- A label where so many statements stand before it in the body. The heights of constants are looked at where the `switch` stands.
+-- A label after this number of statements of the body. The heights of constants are tested at the position of
+-- the `switch`.
 abbrev pub add_case : CType → At → Typed → Labels → ℕ → Labelled
 add_case t at e labels count = let z = constant_value t e in record {
   labels = with_start labels z count;
   added = record (faults_added (whole_faults at e ++ label_faults labels z e.first)) { calls = e.calls };
 }
 
+-- the label `default`, of which there may be one
 abbrev pub add_default : At → Labels → ℕ → Labelled
 add_default at labels count = record {
   labels = record labels { other = Some count };
   added = faults_added (fault_if (is_some labels.other) Twice at);
 }
 
+-- a label, before statement `count` of the body
 abbrev pub add_label : CType → At → Label → Labels → ℕ → Scope → ℕ → Labelled
 add_label t at (label.Case keyword value colon) labels count scope calls =
     add_case t at (typed_conditional value scope calls) labels count
 add_label t at (label.Default keyword colon) labels count scope calls = add_default keyword.at labels count
 
--- a label, and the parts of the statements behind it
+-- a label, and the parts of the statements after it
 pub record GroupParts : Type 0 where
   pub label : Label
   pub statements : List Part
 
+-- a label with the statements after it
 abbrev pub add_group : CType → At → GroupParts → Labels → ℕ → Scope → Before → Labelled
 add_group t at g labels count scope n =
     let l = add_label t at g.label labels count scope n.calls in
     record { labels = l.labels; added = l.added and in_order g.statements scope (behind n l.added) }
 
+-- the groups of a `switch` in order
 abbrev pub add_groups : CType → At → List GroupParts → Labels → ℕ → Scope → Before → Labelled
 add_groups t at [] labels count scope n = record { labels = labels; added = nothing_added }
 add_groups t at (g ∷ gs) labels count scope n =
@@ -290,6 +316,7 @@ add_groups t at (g ∷ gs) labels count scope n =
     (knowing a.added.entries scope) (behind n a.added) in
     record { labels = b.labels; added = a.added and b.added }
 
+-- a `switch`: its controlling expression, then its groups
 abbrev pub add_switch : Typing → List GroupParts → Part
 add_switch on groups scope n =
     let w = on scope n.calls in
@@ -328,9 +355,11 @@ add_printf at typings scope n = let es = typed_each scope n.calls typings in
 abbrev pub add_break : At → Part
 add_break at scope n = unnumbered tree.break_loop (fault_if (not scope.exits.breaks) BreakOutside at)
 
+-- a `continue`, which may come in a loop alone
 abbrev pub add_continue : At → Part
 add_continue at scope n = unnumbered tree.continue_loop (fault_if (not scope.exits.continues) BreakOutside at)
 
+-- a `return` without a value
 abbrev pub add_return_none : Part
 add_return_none scope n = unnumbered tree.return_none []
 
@@ -350,25 +379,31 @@ abbrev pub add_block : List Part → Part
 add_block items scope n = let a = in_order items (inner scope) n in
     enclosing (tree.block (stmts_of a.stmts)) a
 
+-- the expression of a condition
 abbrev pub test_of : Condition → Typing
 test_of c = typed_conditional c.test.value
 
+-- an expression that may be missing
 abbrev pub optional_typing : Option Conditional → Option Typing
 optional_typing None = None
 optional_typing (Some e) = Some (typed_conditional e)
 
+-- the arguments of a `printf` after its format
 abbrev pub printed_typings : Printed → List Typing
 printed_typings p = map typed_next p.values.items
 
 -- THE FORMS OF THE GRAMMAR. A block gives the parts in it.
 
+-- the parts of a block
 abbrev pub PartList : Type 0
 PartList = List Part
 
+-- an item of a block, by its parts
 abbrev pub item_step : BlockItem-F Part Part PartList Part Part Part Part GroupParts Part → Part
 item_step (BlockItem-F.Declaration d) = add_declaration [] d.specifiers d.declarators
 item_step (BlockItem-F.Statement s) = s
 
+-- a form of statement, by its parts
 abbrev pub form_step : StatementForm-F Part Part PartList Part Part Part Part GroupParts Part → Part
 form_step (StatementForm-F.Block items) = add_block items
 form_step (StatementForm-F.Empty semicolon) = nothing
@@ -386,45 +421,57 @@ form_step (StatementForm-F.Assert keyword condition semicolon) = add_assert keyw
 form_step (StatementForm-F.Printf keyword opener printed closer semicolon) =
     add_printf keyword.at (printed_typings printed)
 
+-- the parts of a block
 abbrev pub block_step : Block-F Part Part PartList Part Part Part Part GroupParts Part → PartList
 block_step b = b.items.items
 
+-- the statement that a condition controls
 abbrev pub controlled_step : Controlled-F Part Part PartList Part Part Part Part GroupParts Part → Part
 controlled_step c = c.statement.value
 
+-- a `do`, by its parts
 abbrev pub do_step : DoWhile-F Part Part PartList Part Part Part Part GroupParts Part → Part
 do_step d = add_do (test_of d.condition) d.body
 
+-- an `else` branch
 abbrev pub else_step : Else-F Part Part PartList Part Part Part Part GroupParts Part → Part
 else_step e = e.statement
 
+-- a `for`, by its parts
 abbrev pub for_step : For-F Part Part PartList Part Part Part Part GroupParts Part → Part
 for_step f = add_for f.head.value f.body
 
+-- a label with its statements, by their parts
 abbrev pub group_step : Group-F Part Part PartList Part Part Part Part GroupParts Part → GroupParts
 group_step g = record { label = g.label; statements = g.statements.items }
 
+-- a statement, by its form
 abbrev pub statement_step : Statement-F Part Part PartList Part Part Part Part GroupParts Part → Part
 statement_step s = s.form
 
 -- WHOLE TREES
 
+-- what an item of a block adds
 unfoldable pub add_item : BlockItem → Part
 add_item = fold-BlockItem Part Part PartList Part Part Part Part GroupParts Part item_step form_step block_step
     controlled_step do_step else_step for_step group_step statement_step
 
+-- what a form of statement adds
 unfoldable pub add_statement_form : StatementForm → Part
 add_statement_form = fold-StatementForm Part Part PartList Part Part Part Part GroupParts Part item_step form_step
     block_step controlled_step do_step else_step for_step group_step statement_step
 
+-- what a statement adds
 unfoldable pub add_statement : Statement → Part
 add_statement = fold-Statement Part Part PartList Part Part Part Part GroupParts Part item_step form_step block_step
     controlled_step do_step else_step for_step group_step statement_step
 
+-- the parts of a block
 unfoldable pub parts_of_block : Block → PartList
 parts_of_block = fold-Block Part Part PartList Part Part Part Part GroupParts Part item_step form_step block_step
     controlled_step do_step else_step for_step group_step statement_step
 
+-- a label with the parts of its statements
 unfoldable pub parts_of_group : Group → GroupParts
 parts_of_group = fold-Group Part Part PartList Part Part Part Part GroupParts Part item_step form_step block_step
     controlled_step do_step else_step for_step group_step statement_step

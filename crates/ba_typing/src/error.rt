@@ -4,8 +4,8 @@ use ba_numbers::ids::At;
 use std::alloc::AllocError;
 use thiserror::Error;
 
-/// The leftmost fault of a program, of those at one position the one with the smaller number; or that it has none, and no `main`; or
-/// want of memory.
+/// The first fault of a program, by position and then by number; `NoMain` if a `main` is all that is missing;
+/// or out of memory.
 #[derive(Clone, Copy, Debug, PartialEq, Eq, Error)]
 pub enum TypeError {
     /// A name that no declaration in scope has, or a call of a function that has no definition.
@@ -17,16 +17,17 @@ pub enum TypeError {
     /// A name or a type that does not fit its use.
     #[error("wrong kind")]
     WrongKind(At),
-    /// The number of arguments differs from that of the parameters, or an array has more values than elements.
+    /// The number of arguments differs from that of the parameters, or an array has more values than
+    /// elements.
     #[error("wrong count")]
     WrongCount(At),
     /// There is no definition of `main`.
     #[error("no main")]
     NoMain,
-    /// The length of an array is missing, not constant, without a value, or not from 1 to 256.
+    /// The length of an array is missing, not constant, traps, or is not from 1 to 256.
     #[error("bad length")]
     BadLength(At),
-    /// A `break` or `continue` outside a loop.
+    /// A `break` outside a loop and a `switch`, or a `continue` outside a loop.
     #[error("break outside a loop")]
     BreakOutside(At),
     /// A call in the index of an element that is changed by `op=`, `++` or `--`.
@@ -35,7 +36,7 @@ pub enum TypeError {
     /// The first item past a limit.
     #[error("past a limit")]
     Limit(At),
-    /// Want of memory.
+    /// Out of memory.
     #[error("out of memory")]
     Memory,
 }

@@ -1,11 +1,11 @@
-//! Faults of a program, and which of two comes first.
+//! Faults of a program, and their order.
 
 ghost use Rattle.std.specs.Prelude.{◌≡◌};
 ghost use Rattle.ba_typing.specs.Faults.{comes_before, number_of};
 
 use ba_numbers::ids::At;
 
-/// What is wrong, by the row of the table of faults.
+/// The cause of a fault, by the row of the table of faults, as `TypeError` describes it.
 #[derive(Clone, Copy, Debug, PartialEq, Eq)]
 pub enum Cause {
     UnknownName,
@@ -44,7 +44,8 @@ impl Cause {
 }
 
 impl Fault {
-    /// Whether this fault comes before the other one: by position, and at one position by the number of its cause.
+    /// Whether this fault comes before the other one: by position, and at one position by the number of its
+    /// cause.
     pub fn comes_before(self, other: Fault) -> bool
         ensures { result ≡ comes_before self other }
     {

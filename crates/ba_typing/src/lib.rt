@@ -1,5 +1,6 @@
-//! What typing means (C90 6.1.2, 6.3, 6.5 to 6.7): the faults of a parser's tree, and the typed tree of one without
-//! faults, by definitions over the tree. The names, words and operators that these speak of are types of this crate.
+//! The type system of the profile (C90 6.1.2, 6.3, 6.5 to 6.7), as definitions over the parse tree. They give
+//! all faults of a tree, and its typed tree if there is no fault. The names, words and operators that they
+//! use are types of this crate.
 #![tactic(auto)]
 
 pub mod error;

@@ -9,7 +9,7 @@ use ba_numbers::ids::{FnId, VarId};
 use ba_numbers::numbers::CType;
 use ba_tree::tree::{Start, Variable};
 
-/// A name space (C90 6.1.2.3): tags have one of their own.
+/// A name space (C90 6.1.2.3). Tags have their own.
 #[derive(Clone, Copy, Debug, PartialEq, Eq)]
 pub enum Space {
     Ordinary,
@@ -23,7 +23,8 @@ pub struct Object {
     pub variable: Variable,
 }
 
-/// What a declared name denotes, if it is no function (C90 6.1.2): a variable, an enumeration constant with its value, or a tag.
+/// What a declared name denotes, if it is no function (C90 6.1.2): a variable, an enumeration constant with
+/// its value, or a tag.
 #[derive(Clone, Copy, Debug, PartialEq, Eq)]
 pub enum Entity {
     Variable(Object),
@@ -31,7 +32,7 @@ pub enum Entity {
     Tag,
 }
 
-/// A name that is in scope: how many scopes are around its declaration (0 for the file), and what it denotes.
+/// A name in scope: how many scopes are around its declaration (0 for the file), and what it denotes.
 pub struct Entry<'a> {
     pub name: Text<'a>,
     pub depth: u32,
@@ -59,7 +60,7 @@ impl Entity {
         }
     }
 
-    /// What its name means; that of a tag means nothing among the ordinary names.
+    /// The meaning of the name. A tag means nothing among ordinary names.
     pub fn meaning(self) -> Meaning
         ensures { result ≡ meaning_of_entity self }
     {
@@ -72,7 +73,7 @@ impl Entity {
 }
 
 impl<'a> Entry<'a> {
-    /// The same entry again. The name's bytes are not copied.
+    /// Another copy of the entry, which shares the name's bytes.
     pub fn copy(&self) -> Entry<'a>
         ensures { result ≡ self.now }
     {
@@ -84,15 +85,18 @@ impl<'a> Entry<'a> {
     }
 }
 
-/// The type of a parameter: of a value, or of an array's elements; `None` for `void`.
+/// The type of a parameter: a value's type, or that of an array's elements. `None` is `void`.
 #[derive(Clone, Copy, Debug, PartialEq, Eq)]
 pub struct ParamType {
     pub t: Option<CType>,
     pub is_array: bool,
 }
 
-/// A declaration of a function: the type that it returns, `None` for `void`; its parameters' types, `None` where a prototype has empty
-/// parentheses; whether it is a definition, and how many definitions of functions stand before it.
+/// A declaration of a function:
+/// - the type that it returns, `None` for `void`
+/// - the types of its parameters, `None` if a prototype has empty parentheses
+/// - whether it is a definition
+/// - how many definitions of functions come before it
 pub struct Signature<'a> {
     pub name: Text<'a>,
     pub result: Option<CType>,
@@ -113,15 +117,15 @@ impl<'a> Drop for Signature<'a> {
     }
 }
 
-/// The labels of a `switch` so far, in the order of the text (C90 6.6.4.2): of each `case` its value and how many statements of the body
-/// stand before it; and how many stand before `default`.
+/// The labels of a `switch` so far, in the order of the text (C90 6.6.4.2). Each `case` has its value and how
+/// many statements of the body are before it. `default` has that number too.
 #[derive(Drop)]
 pub struct Labels {
     pub starts: Items<Start>,
     pub other: Option<u32>,
 }
 
-/// What a name of the ordinary name space means where it stands.
+/// What a name of the ordinary name space means in its scope.
 #[derive(Clone, Copy, Debug, PartialEq, Eq)]
 pub enum Meaning {
     Unknown,

@@ -1,4 +1,4 @@
-//! What the names, words and operators of a program mean.
+//! The meanings of the names, words and operators of a program.
 
 ghost use Rattle.std.specs.Prelude.{◌≡◌, ◌++◌, is_some, not, option_map, option_to_list};
 ghost use Rattle.ba_trees.specs.Classes.{class_of, word};
@@ -10,7 +10,7 @@ use ba_tokens::token::{Keyword, Punct, Token, TokenKind};
 use ba_trees::tree::declarations::Specifiers;
 use ba_trees::tree::expressions::TypeName;
 
-/// A binary operator: one with a value of two operands, or one whose left operand may decide alone.
+/// A binary operator. It has a value of two operands, or its left operand may decide alone.
 #[derive(Clone, Copy)]
 pub enum Operator {
     Value(BinOp),
@@ -26,14 +26,15 @@ pub enum Jump {
     Return,
 }
 
-/// Which jumps leave or go on with a statement around them: a `break` a loop or a `switch`, a `continue` a loop (C90 6.6.6.2, 6.6.6.3).
+/// Which jumps are accepted (C90 6.6.6.2, 6.6.6.3): a `break` in a loop or a `switch`, a `continue` in a
+/// loop.
 #[derive(Clone, Copy, Debug, PartialEq, Eq)]
 pub struct Exits {
     pub breaks: bool,
     pub continues: bool,
 }
 
-/// The name that a token is, without bytes where it is none.
+/// The name of a token, without bytes if it is no name.
 pub fn name_of<'a>(token: &'a Token) -> Text<'a>
     ensures { result ≡ name_of token.now }
 {
@@ -43,7 +44,7 @@ pub fn name_of<'a>(token: &'a Token) -> Text<'a>
     }
 }
 
-/// The punctuator that a token is, `None` where it is none.
+/// The punctuator of a token, `None` if it is none.
 pub fn punct_of(token: &Token) -> Option<Punct>
     ensures { result ≡ punct_of token.now }
 {
@@ -78,7 +79,7 @@ pub fn is_keyword(token: &Token, keyword: Keyword) -> bool
     }
 }
 
-/// Which words that tell a type are among the words of a type or of a declaration.
+/// Which words that decide a type occur in the words of a type or of a declaration.
 #[derive(Clone, Copy)]
 struct TypeWords {
     is_void: bool,
@@ -132,21 +133,21 @@ pub fn type_specified(specifiers: &Specifiers) -> Option<CType>
     .named()
 }
 
-/// The tag in the words of a type, `None` where there is none (C90 6.5.2.3).
+/// The tag in the words of a type, `None` if there is none (C90 6.5.2.3).
 pub fn tag_of_type(name: &TypeName) -> Option<&Token>
     ensures { option_map (λ tag. tag.now) result ≡ tag_of (words_of name.now) }
 {
     tag_in(name.words.as_slice())
 }
 
-/// The tag in the words of a declaration, `None` where there is none.
+/// The tag in the words of a declaration, `None` if there is none.
 pub fn tag_of_declaration(specifiers: &Specifiers) -> Option<&Token>
     ensures { option_map (λ tag. tag.now) result ≡ tag_of (words_of_declaration specifiers.now) }
 {
     tag_of(specifiers.words.as_slice(), specifiers.behind.as_slice())
 }
 
-/// The name behind the first `enum` of these words and those behind them, `None` where none stands there.
+/// The name after the first `enum` of these words, which go on in `behind`; `None` if there is none.
 fn tag_of<'a>(words: &'a [Token], behind: &'a [Token]) -> Option<&'a Token>
     ensures { option_map (λ tag. tag.now) result ≡ tag_of (words.now ++ behind.now) }
 {
@@ -160,7 +161,7 @@ fn tag_of<'a>(words: &'a [Token], behind: &'a [Token]) -> Option<&'a Token>
     tag_in(behind)
 }
 
-/// The name behind the first `enum` of these words, `None` where none stands there.
+/// The name after the first `enum` of these words; `None` if there is none.
 fn tag_in(words: &[Token]) -> Option<&Token>
     ensures { option_map (λ tag. tag.now) result ≡ tag_of words.now }
 {
@@ -174,7 +175,7 @@ fn tag_in(words: &[Token]) -> Option<&Token>
     None
 }
 
-/// The first of these words and those behind them, where it is a name.
+/// The first of these words, which go on in `behind`, if it is a name.
 fn first_name<'a>(words: &'a [Token], behind: &'a [Token]) -> Option<&'a Token>
     ensures { option_map (λ name. name.now) result ≡ first_name (words.now ++ behind.now) }
 {
@@ -196,7 +197,7 @@ fn named(token: Option<&Token>) -> Option<&Token>
     }
 }
 
-/// Whether it is `void` that is named.
+/// Whether the type is `void`.
 pub fn is_void(t: Option<CType>) -> bool
     ensures { result ≡ not (is_some t) }
 {
@@ -267,7 +268,7 @@ pub fn changing_operator(punct: Option<Punct>) -> Option<BinOp>
     }
 }
 
-/// The jump that a keyword alone is (C90 6.6.6).
+/// The jump of this keyword (C90 6.6.6).
 pub fn jump_of(keyword: &Token) -> Jump
     ensures { result ≡ jump_of keyword.now }
 {

@@ -4,8 +4,8 @@ ghost use Rattle.std.specs.Prelude.{◌≡◌};
 
 use std::marker::Model;
 
-/// A name of the program: bytes that stand in its tree, and take no memory of their own. Contracts see the list of
-/// the bytes and nothing else.
+/// A name of the program: bytes of its tree, borrowed. A contract sees the list of the bytes and nothing
+/// else.
 #[derive(Drop)]
 pub struct Text<'a> {
     bytes: &'a [u8],
@@ -34,7 +34,7 @@ impl<'a> Text<'a> {
         self.bytes
     }
 
-    /// The same text again, of the same bytes in memory.
+    /// Another copy of the text, of the same bytes in memory.
     pub fn copy(&self) -> Text<'a>
         ensures { result ≡ self.now }
     {

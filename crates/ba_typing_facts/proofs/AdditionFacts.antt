@@ -1,4 +1,4 @@
--- What declarations and statements add fits the parts of a program, where they have what is added: how such
+-- What declarations and statements add fits the parts of a program, if they have what is added: how such
 -- additions follow each other.
 use Rattle.std.proofs.Common.{◌≡◌, ℕ, ◌+◌, ◌≤◌, ◌<◌, Bool, true, not, ◌==◌, List, [], ◌∷◌, ◌++◌, map, length, length-append, refl, sym, ◌∙◌, ap, subst, arith, sum_by}
 use Rattle.std.specs.List.{list_all}
@@ -95,7 +95,7 @@ few_none n faults = record {
 
 -- IN A FUNCTION of a program, or outside
 module _ (p : Parts) (owned : List VarId) (f : Function) (inside : Bool) where
-  -- the program has what is added behind so many; inside a function, its variables are among the function's
+  -- the program has what is added after so many; inside a function, its variables are among the function's
   abbrev pub Stands : Before → Added → Type 0
   Stands n a = HasAt p.variables n.variables a.variables × HasAt p.statements n.statements a.statements
       × HasVariables owned n.variables (length a.variables)

@@ -1,4 +1,4 @@
--- Blocks, `if` and loops: what each adds fits the parts of the program where what they hold does.
+-- Blocks, `if` and loops: what each adds fits the parts of the program if what they hold does.
 use Rattle.std.proofs.Common.{◌≡◌, ℕ, ◌+◌, ◌≤◌, Bool, true, Option, None, Some, List, [], ◌∷◌, ◌++◌, length, length-append, refl, sym, ◌∙◌, ap, subst, arith}
 use Rattle.std.proofs.lemmas.Bool.{ne_eqb}
 use Rattle.ba_numbers.specs.declared.ids.VarId.{VarId}

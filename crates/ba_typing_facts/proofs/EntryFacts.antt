@@ -18,7 +18,7 @@ use Rattle.ba_tree.specs.Facts.{has_variable}
 use Rattle.ba_tree.specs.declared.tree.Variable.{Variable}
 use Rattle.ba_typing.specs.Declarations.{Added, ◌and◌, Before, behind, Part, ◌then◌, in_order, faults_added, add_length, add_variable, add_declare, add_optional_initialiser, add_declarator, add_declarators, add_optional_declarators, TypedLength, typed_array_length, count_of_values, shape_of}
 use Rattle.ba_typing.specs.Faults.{void_faults, limit_faults, parameter_limit, tag_faults}
-use Rattle.ba_typing.specs.Files.{var_in, vars_of, vars_from, add_param, add_params, param_length, param_shape, place_of_param, name_of_param}
+use Rattle.ba_typing.specs.Files.{var_in, vars_of, vars_from, add_param, add_params, param_length, param_shape, position_of_param, name_of_param}
 use Rattle.ba_typing.specs.Names.{Scope, knowing, name_of, words_of, type_named, tag_of}
 use Rattle.ba_typing.specs.declared.meanings.Entry.{Entry}
 use Rattle.ba_typing.specs.declared.meanings.Signature.{Signature}
@@ -112,7 +112,7 @@ param_entries : (is_main : Bool) (at : At) (number : ℕ) (q : Parameter) → Ha
     (add_param is_main true at number q)
 param_entries is_main function_at number q = record {
   by = λ scope n.
-      let at = place_of_param function_at q in
+      let at = position_of_param function_at q in
       let t = type_named q.type_name in
       let l = param_length is_main at q.length scope n.calls in
       let w : Variable = record { t = unwrap_or t I32; shape = param_shape is_main q.length l } in
@@ -131,7 +131,7 @@ params_entries is_main at number (q ∷ qs) = entries_then (add_param is_main tr
 
 -- NUMBERS OF VARIABLES
 
--- such variables are there, where the list has them
+-- such variables are there, if the list has them
 pub vars_has : (first count k : ℕ) → first ≤ k → k < first + count
     → has_variable (vars_from first count) (record { 0 = k }) ≡ true
 vars_has first zero k low high = absurd (let e : ⊥ = omega (arith, low, high) in e)

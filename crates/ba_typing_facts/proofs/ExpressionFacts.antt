@@ -1,6 +1,5 @@
--- Each expression of the grammar: what is said of it holds of its typed tree, where there is no fault in it.
--- By induction on the
--- parser's trees, one line a form.
+-- Each expression of the grammar: what is said of it holds of its typed tree, if there is no fault in it. By
+-- induction on the parser's trees, one line a form.
 use Rattle.std.proofs.Common.{◌≡◌, ℕ, ◌+◌, ℤ, pos, Bool, true, false, Option, None, Some, List, [], ◌∷◌, ◌++◌, cond, map, refl, sym, subst, int_le, T, Box, Global}
 use Rattle.std.specs.Prelude.{nat_lt, unwrap_or}
 use Rattle.std.proofs.lemmas.Bool.{and_from}
@@ -48,7 +47,7 @@ module _ (p : Parts) (owned : List VarId) where
   abbrev AreBranches : BranchTypings → Type 0
   AreBranches b = IsWellTyping p owned b.0 × IsWellTyping p owned b.1
 
-  -- the rest of a chain keeps it of what stands before
+  -- the rest of a chain keeps it of what is before
   record IsChain (c : ChainTyping) : Type 0 where
     by : (scope : Scope) → IsScope p owned scope → (before : ℕ) (left : Typed) →
         IsWellTyped p owned before left
@@ -471,7 +470,7 @@ module _ (p : Parts) (owned : List VarId) where
   operand_form : (y : Pieces Operand-F) → IsOperand (operand_step (attributes_operand (bare_operand y)))
   operand_form y = (y.first.1, row_of_chains y.chains.items)
 
-  -- it holds of a tree where it holds of what its form makes of the parts
+  -- it holds of a tree if it holds of what its form makes of the parts
   by_form : {A F S : Type 0} (holds : S → Type 0) (see : A → S) (roll : F → A) (step : F → S)
       → ((z : F) → see (roll z) ≡ step z) → (z x : F) → z ≡ x → holds (step z) → holds (see (roll x))
   by_form holds see roll step rolls z x is h = subst (λ y. holds (see (roll y))) is (subst holds (sym

@@ -61,7 +61,7 @@ from_vars vs first (suc count) h k low high =
     ]
 
 module _ (p : Parts) where
-  -- each function is right, where its statements do not nest too deep
+  -- each function is right, if its statements do not nest too deep
   abbrev pub AreGood : ℕ → List FunctionTree → Type 0
   AreGood k [] = Unit {0}
   AreGood k (t ∷ ts) = (nat_le (body_facts p (function_at p k)).depth 101 ≡ true
@@ -88,7 +88,7 @@ module _ (p : Parts) where
   abbrev pub inits_of : List StmtTree → List StmtFacts
   inits_of = all_facts_of p no_function
 
-  -- what a part of the file adds fits, behind so many definitions
+  -- what a part of the file adds fits, after so many definitions
   pub record IsFile (d : ℕ) (n : Before) (x : FileAdded) : Type 0 where
     pub few : IsFew n x.added
     pub sized : IsSized x.added

@@ -1,6 +1,5 @@
--- The declarations of functions in a file without faults: their numbers, that no name is defined twice, how
--- many there are, and that
--- the functions of the program are those that they declare.
+-- The declarations of functions in a file without faults: their numbers, their count, and that no name is
+-- defined twice. The functions of the program are those that they declare.
 use Rattle.std.proofs.Common.{true≢false, ◌≡◌, ℕ, ◌+◌, ◌≤◌, Bool, true, false, ◌&&◌, ◌||◌, ◌==◌, cond, Option, None, Some, List, [], ◌∷◌, ◌++◌, map, filter, length, append_assoc, append-nil, refl, sym, ◌∙◌, ap, subst, arith, slice_get, unwrap_or}
 use Rattle.std.specs.List.{list_any}
 use Rattle.std.proofs.lemmas.Bool.{eqb-true, eq-eqb, false_from_ne_true}
@@ -35,7 +34,7 @@ use Rattle.ba_typing_facts.proofs.PrimaryFacts.{not_so}
 use Rattle.ba_typing.proofs.SignatureFacts.{same_name-equal, same_name-self, found_is, AreDefinitions, found_holds, found_later, found_first, AreNumbered, found_unique, AreNew, count_one_more}
 use Rattle.ba_typing_facts.proofs.ScopeFacts.{FitParams, IsFunction}
 
--- the signature of a declaration behind so many definitions
+-- the signature of a declaration after so many definitions
 abbrev pub declared_as : ℕ → Option CType → Token → Parameters → FunctionEnd → Signature
 declared_as d t name params e = record {
   name = name_of name;

@@ -33,9 +33,8 @@ pub nil_right : {A : Type 0} (xs ys : List A) → xs ++ ys ≡ [] → ys ≡ []
 nil_right [] ys h = h
 nil_right (x ∷ xs) ys h = cc
 
--- THE FACTS OF AN EXPRESSION behind so many calls, which has so many calls, at most this height, and may be
--- constant: it is sound, names
--- variables among these, and its calls are numbered in the order of the text.
+-- THE FACTS OF AN EXPRESSION with these counts of calls before it and in it, at most this height, and maybe
+-- constant. It is sound, names variables among these, and its calls are numbered in the order of the text.
 abbrev pub call_numbers : List CallId → List ℕ
 call_numbers = map (λ (c : CallId). c.0)
 

@@ -42,7 +42,7 @@ weaker_any v xs ys h = list_any-append (λ (w : VarId). w.0 == v.0) xs ys ∙ or
 later_any : (v : VarId) (xs ys : List VarId) → has_variable ys v ≡ true → has_variable (xs ++ ys) v ≡ true
 later_any v xs ys h = list_any-append (λ (w : VarId). w.0 == v.0) xs ys ∙ or_right (has_variable xs v) _ h
 
--- variables of their own, where they stand
+-- variables of their own, where they are
 pub own_at : (p : Parts) (first : ℕ) (vs : List Variable) → HasAt p.variables first vs → are_own vs ≡ true
     → list_all (λ v. holds is_own_shape (shape_at p v)) (vars_from first (length vs)) ≡ true
 own_at p first [] h own = refl
@@ -116,7 +116,7 @@ module _ (p : Parts) where
   abbrev pub var_numbers : List VarId → List ℕ
   var_numbers = map (λ (v : VarId). v.0)
 
-  -- what a function adds, of what stands in it
+  -- what a function adds, of what is in it
   abbrev pub function_added : List Fault → Added → Added
   function_added faults w = record (faults_added faults and w) { stmts = []; entries = [] }
 

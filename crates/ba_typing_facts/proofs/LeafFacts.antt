@@ -1,4 +1,4 @@
--- Statements that hold no others: what their facts owe to the place where they stand.
+-- Statements that hold no others: what their facts owe to the place where they are.
 use Rattle.std.proofs.Common.{◌≡◌, ℕ, suc, ◌+◌, ◌-◌, ◌≤◌, Bool, true, Some, List, [], ◌∷◌, ◌++◌, map, flat_map, length, refl, ◌∙◌, ap, subst, arith, append-nil, slice_get, nat_le, nat_lt}
 use Rattle.std.specs.List.{list_all, range_with_len}
 use Rattle.std.proofs.lemmas.Bool.{and_from, le-leb, ltb-false}

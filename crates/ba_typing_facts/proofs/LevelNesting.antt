@@ -338,7 +338,7 @@ statement_form y = record {
   one = y.form.1.one;
 }
 
--- it holds of a tree where it holds of what its form makes of the parts
+-- it holds of a tree if it holds of what its form makes of the parts
 by_form : {A F : Type 0} (holds : ℕ → List Mark → Type 0) (nesting : A → ℕ) (marks : A → M) (roll : F → A)
     (deep : F → ℕ) (step : F → M) → ((z : F) → nesting (roll z) ≡ deep z) → ((z : F) → marks (roll z)
     ≡ step z)

@@ -404,7 +404,7 @@ module _ (p : program.Parts) (f : Function) where
       (bare_statement y))) (statement_step (added_statement (bare_statement y)))
   statement_form y = y.form.1
 
-  -- it holds of a tree where it holds of what its form makes of the parts
+  -- it holds of a tree if it holds of what its form makes of the parts
   by_form : {A F S : Type 0} (holds : ℕ → S → Type 0) (nesting : A → ℕ) (add : A → S) (roll : F → A)
       (deep : F → ℕ) (step : F → S) → ((z : F) → nesting (roll z) ≡ deep z) → ((z : F) → add (roll z)
       ≡ step z)

@@ -1,4 +1,4 @@
--- Numbers that stand each once in a list: the test says so.
+-- Numbers that each occur once in a list: the test says so.
 use Rattle.std.proofs.Common.{◌≡◌, ℕ, suc, zero, ◌+◌, ◌≤◌, ◌<◌, Bool, true, false, ◌&&◌, ◌||◌, not, ◌==◌, cond, List, [], ◌∷◌, length, refl, sym, ◌∙◌, ap, subst, arith, sum_by, nat_le, nat_lt, IsPermutation}
 use Rattle.std.specs.List.{list_all, list_any, range_with_len}
 use Rattle.std.proofs.lemmas.Bool.{and_from, eq-eqb, eqb-true, le-leb, lt-ltb}
@@ -13,7 +13,7 @@ moved : (test : ℕ → Bool) (ms ns : List ℕ) → IsPermutation ms ns → lis
 moved test ms ns h all = list_all-from_AllPass test ns
     (All-permutation (λ n. test n ≡ true) ms ns h (AllPass-from_list_all test ms all))
 
--- how often a number stands in a list
+-- how often a number is in a list
 abbrev one_if : ℕ → ℕ → ℕ
 one_if n m = cond (m == n) 1 0
 

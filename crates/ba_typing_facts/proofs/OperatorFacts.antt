@@ -1,5 +1,4 @@
--- What is said of an expression holds of its typed tree, where there is no fault in it: operands and
--- operators.
+-- What is said of an expression holds of its typed tree, if there is no fault in it: operands and operators.
 use Rattle.std.proofs.Common.{◌≡◌, ℕ, ◌+◌, ◌≤◌, ℤ, max, Bool, true, false, ◌&&◌, ◌||◌, cond, Option, None, Some, List, [], ◌∷◌, flat_map, refl, ◌∙◌, ap, arith}
 use Rattle.std.specs.List.{range_with_len}
 use Rattle.std.proofs.lemmas.Bool.{and_from, and_parts}
@@ -81,7 +80,7 @@ pub record IsBare (e : Typed) : Type 0 where
   pub calls : e.calls ≡ 0
   pub height : 1 ≤ e.height
 
--- what is said of an expression behind so many calls
+-- what is said of an expression after so many calls
 pub record IsWellTyped (p : Parts) (owned : List VarId) (before : ℕ) (e : Typed) : Type 0 where
   pub named : (name : List ℕ) → e.name ≡ Some name → IsBare e
   pub right : e.faults ≡ [] → IsTyped p owned before e.calls e.height e.is_constant e.t e.tree

@@ -17,7 +17,7 @@ use Rattle.ba_tree.specs.declared.tree.Parts.{Parts}
 use Rattle.ba_tree.specs.declared.tree.Variable.{Variable}
 use Rattle.ba_typing.specs.Declarations.{Added, nothing_added, ◌and◌, Before, behind, Part, faults_added, add_length, add_variable, TypedLength}
 use Rattle.ba_typing.specs.Faults.{void_faults, limit_faults, parameter_limit, tag_faults}
-use Rattle.ba_typing.specs.Files.{var_in, vars_of, add_param, add_params, declare_param, param_length, param_shape, place_of_param, name_of_param, check_length, bad_length_faults}
+use Rattle.ba_typing.specs.Files.{var_in, vars_of, add_param, add_params, declare_param, param_length, param_shape, position_of_param, name_of_param, check_length, bad_length_faults}
 use Rattle.ba_typing.specs.Names.{Scope, knowing, words_of, type_named, tag_of}
 use Rattle.ba_typing.specs.declared.meanings.Entity.{Entity}
 use Rattle.ba_typing.specs.declared.meanings.Entity.TheVariants as entity
@@ -80,7 +80,7 @@ module _ (p : Parts) (owned : List VarId) (f : Function) (inside : Bool) where
       → HasPiece p owned f inside (add_param is_main defined at number q)
   param_piece is_main defined function_at number q = record {
     by = λ scope in_scope n stands none.
-        let at = place_of_param function_at q in
+        let at = position_of_param function_at q in
         let t = type_named q.type_name in
         let l = param_length is_main at q.length scope n.calls in
         let w : Variable = record { t = unwrap_or t I32; shape = param_shape is_main q.length l } in
@@ -133,7 +133,7 @@ no_entries at (Some l) scope n = refl
 -- a parameter of a definition is one entry
 abbrev pub entry_of : Bool → At → Parameter → Scope → Before → Entry
 entry_of is_main function_at q scope n =
-    let at = place_of_param function_at q in
+    let at = position_of_param function_at q in
     let l = param_length is_main at q.length scope n.calls in
     let a = add_length at l scope n in record {
       name = name_of_param q.name;
@@ -150,7 +150,7 @@ entry_of is_main function_at q scope n =
 pub one_entry : (is_main : Bool) (at : At) (number : ℕ) (q : Parameter) (scope : Scope) (n : Before)
     → (add_param is_main true at number q scope n).entries ≡ entry_of is_main at q scope n ∷ []
 one_entry is_main function_at number q scope n =
-    let at = place_of_param function_at q in
+    let at = position_of_param function_at q in
     ap (λ es. (es ++ (entry_of is_main function_at q scope n ∷ [])) ++ [])
     (no_entries at (param_length is_main at q.length scope n.calls) scope n)
 
@@ -163,7 +163,7 @@ params_shaped is_main at number (q ∷ qs) scope n =
     shaped-and is_main a.entries b.entries
     (subst (AreShaped is_main) (sym (one_entry is_main at number q scope n))
     (and_from _ _ (param_shape_is is_main q.length
-    (param_length is_main (place_of_param at q) q.length scope n.calls)) refl))
+    (param_length is_main (position_of_param at q) q.length scope n.calls)) refl))
     (params_shaped is_main at (number + 1) qs (knowing a.entries scope) (behind n a))
 
 pub shaped_are : (p : Parts) (owned : List VarId) (is_main : Bool) (es : List Entry) → AreEntries p owned es
@@ -204,17 +204,17 @@ few_params is_main at number [] scope n none few = omega (arith, few)
 few_params is_main at number (q ∷ qs) scope n none few =
     let a = add_param is_main true at number q scope n in
     let b = add_params is_main true at (number + 1) qs (knowing a.entries scope) (behind n a) in
-    let declared = declare_param true (place_of_param at q) (name_of_param q.name) (record {
+    let declared = declare_param true (position_of_param at q) (name_of_param q.name) (record {
       t = unwrap_or (type_named q.type_name) I32;
-      shape = param_shape is_main q.length (param_length is_main (place_of_param at q) q.length scope
+      shape = param_shape is_main q.length (param_length is_main (position_of_param at q) q.length scope
           n.calls);
-    }) (param_length is_main (place_of_param at q) q.length scope n.calls) scope n in
-    let void_none = void_faults (type_named q.type_name) (place_of_param at q) in
-    let limit = limit_faults parameter_limit number (place_of_param at q) in
+    }) (param_length is_main (position_of_param at q) q.length scope n.calls) scope n in
+    let void_none = void_faults (type_named q.type_name) (position_of_param at q) in
+    let limit = limit_faults parameter_limit number (position_of_param at q) in
     let tags = tag_faults (knowing declared.entries scope) (tag_of (words_of q.type_name)) in
     let own = nil_right void_none limit (nil_left (void_none ++ limit) tags
     (nil_right declared.faults (void_none ++ limit ++ tags) (nil_left a.faults b.faults none))) in
-    let below = within parameter_limit number (place_of_param at q) own in
+    let below = within parameter_limit number (position_of_param at q) own in
     let more : number + 1 ≤ 33 = omega (arith, below) in
     let rest = few_params is_main at (number + 1) qs (knowing a.entries scope) (behind n a)
     (nil_right a.faults b.faults none) more in

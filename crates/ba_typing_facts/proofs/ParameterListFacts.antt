@@ -15,7 +15,7 @@ use Rattle.ba_tree.specs.declared.tree.Parts.{Parts}
 use Rattle.ba_tree.specs.declared.tree.Variable.{Variable}
 use Rattle.ba_typing.specs.Declarations.{Added, nothing_added, ◌and◌, Before, behind, faults_added, add_length, TypedLength, typed_length, length_faults}
 use Rattle.ba_typing.specs.Faults.{void_faults, limit_faults, parameter_limit, tag_faults}
-use Rattle.ba_typing.specs.Files.{vars_of, type_of_param, add_param, add_params, declare_param, param_length, param_shape, place_of_param, name_of_param, check_length}
+use Rattle.ba_typing.specs.Files.{vars_of, type_of_param, add_param, add_params, declare_param, param_length, param_shape, position_of_param, name_of_param, check_length}
 use Rattle.ba_typing.specs.Names.{Scope, knowing, words_of, type_named, tag_of}
 use Rattle.ba_typing.specs.declared.fault.Cause.TheVariants.{WrongKind}
 use Rattle.ba_typing_facts.proofs.AdditionFacts.{elements_of}
@@ -49,7 +49,7 @@ pub params_statements : (is_main defined : Bool) (at : At) (number : ℕ) (qs : 
     → (add_params is_main defined at number qs scope n).statements ≡ []
 params_statements is_main defined at number [] scope n = refl
 params_statements is_main defined function_at number (q ∷ qs) scope n =
-    let at = place_of_param function_at q in
+    let at = position_of_param function_at q in
     let l = param_length is_main at q.length scope n.calls in
     let w : Variable = record {
       t = unwrap_or (type_named q.type_name) I32;
@@ -82,7 +82,7 @@ pub params_stmts : (is_main defined : Bool) (at : At) (number : ℕ) (qs : List 
     → (add_params is_main defined at number qs scope n).stmts ≡ []
 params_stmts is_main defined at number [] scope n = refl
 params_stmts is_main defined function_at number (q ∷ qs) scope n =
-    let at = place_of_param function_at q in
+    let at = position_of_param function_at q in
     let l = param_length is_main at q.length scope n.calls in
     let w : Variable = record {
       t = unwrap_or (type_named q.type_name) I32;
@@ -122,7 +122,7 @@ prototype_bare is_main at number [] scope n = record {
       refl;
 }
 prototype_bare is_main function_at number (q ∷ qs) scope n =
-    let at = place_of_param function_at q in
+    let at = position_of_param function_at q in
     let l = param_length is_main at q.length scope n.calls in
     let a = add_param is_main false function_at number q scope n in
     bare-and a (add_params is_main false function_at (number + 1) qs (knowing a.entries scope) (behind n a))
@@ -164,7 +164,7 @@ param_sized : (is_main : Bool) (at : At) (number : ℕ) (q : Parameter) (scope :
     → (add_param is_main true at number q scope n).faults ≡ [] → IsSized
     (add_param is_main true at number q scope n)
 param_sized is_main function_at number q scope n none =
-    let at = place_of_param function_at q in
+    let at = position_of_param function_at q in
     let l = param_length is_main at q.length scope n.calls in
     let w : Variable = record {
       t = unwrap_or (type_named q.type_name) I32;
@@ -224,19 +224,19 @@ module _ (p : Parts) where
   params_fit at number (q ∷ qs) scope n stands none =
       let a = add_param false true at number q scope n in
       let b = add_params false true at (number + 1) qs (knowing a.entries scope) (behind n a) in
-      let void_none = void_faults (type_named q.type_name) (place_of_param at q) in
-      let limit = limit_faults parameter_limit number (place_of_param at q) in
+      let void_none = void_faults (type_named q.type_name) (position_of_param at q) in
+      let limit = limit_faults parameter_limit number (position_of_param at q) in
       let w : Variable = record {
         t = unwrap_or (type_named q.type_name) I32;
         shape = param_shape false q.length None;
       } in
-      let known = knowing (declare_param true (place_of_param at q) (name_of_param q.name) w None scope
+      let known = knowing (declare_param true (position_of_param at q) (name_of_param q.name) w None scope
       n).entries scope in
       let tags = tag_faults known (tag_of (words_of q.type_name)) in
       let own = nil_left a.faults b.faults none in (
         subst (λ k. FitsParam p (record { 0 = k }) (type_of_param q))
             (let e : n.variables ≡ n.variables + 0 = omega arith in e)
-            (param_fits q n.variables (not_so _ WrongKind (place_of_param at q) (nil_left void_none limit
+            (param_fits q n.variables (not_so _ WrongKind (position_of_param at q) (nil_left void_none limit
             (nil_left (void_none ++ limit) tags (nil_right _ (void_none ++ limit ++ tags) own)))) stands.0),
         params_fit at (number + 1) qs (knowing a.entries scope) (behind n a) stands.1
             (nil_right a.faults b.faults none),

@@ -1,5 +1,5 @@
--- Names, elements of arrays, arguments and calls: what is said of them holds of their typed trees, where
--- there is no fault.
+-- Names, elements of arrays, arguments and calls: what is said of them holds of their typed trees, if there
+-- is no fault.
 use Rattle.std.proofs.Common.{◌≡◌, ℕ, ◌+◌, ◌≤◌, max, Bool, true, false, ◌&&◌, not, cond, ◌==◌, Option, None, Some, List, [], ◌∷◌, ◌++◌, map, flat_map, length, refl, sym, ◌∙◌, ap, subst, arith}
 use Rattle.std.specs.Prelude.{option_and_then, unwrap_or}
 use Rattle.std.specs.Option.{is_some}

@@ -35,7 +35,7 @@ use Rattle.ba_typing_facts.proofs.FittingFacts.{call_numbers}
 
 -- LISTS
 
--- a list stands in itself
+-- a list is in itself
 at_end : {A : Type 0} (first : List A) (x : A) (xs : List A) → slice_get (first ++ (x ∷ xs)) (length first)
     ≡ Some x
 at_end [] x xs = refl
@@ -285,7 +285,7 @@ module _ (xs : List External) (p : Parts) (none : (file_of xs).added.faults ≡ 
       (AreGood p 0) trees_are file_is.good) shallow))
       stmts_once) kinds) calls_once
 
--- The typed tree of a file without faults is that of a program, where its statements nest at most 100 deep.
+-- The typed tree of a file without faults is that of a program, if its statements nest at most 100 deep.
 pub typed_is_program : (xs : List External) (tree : ProgramTree) (p : Parts) → faults_of xs ≡ []
     → typed_of xs ≡ Some tree
     → tree_of_parts p ≡ tree → is_shallow tree ≡ true → is_program p ≡ true

@@ -57,7 +57,7 @@ reach_deeper {k} {f} one h = record {
       (arith, one, inner, same);
 }
 
--- a brace, and what stands in it
+-- a brace, and what is in it
 pub reach_opened : (s : Token) → {k : ℕ} {f : List Mark} → Reaches k f
     → Reaches (1 + k) (leaf s ∷ one_deeper f)
 reach_opened s {k} {f} h = record {

@@ -164,7 +164,7 @@ module _ (p : Parts) (owned : List VarId) where
   given_is scope h t None v k = cc
   given_is scope h t (Some name) v k = given_meaning t (meaning_of scope name) (meaning_is scope h name) v k
 
-  -- the scope behind a declaration
+  -- the scope after a declaration
   pub knowing_is : (scope : Scope) (entries : List Entry) → IsScope p owned scope → AreEntries p owned entries
       → IsScope p owned (record scope { known = scope.known ++ entries })
   knowing_is scope entries h k = record {

@@ -1,4 +1,4 @@
--- What the facts of typed statements, one after the other, owe to the place where they stand, and how such
+-- What the facts of typed statements, one after the other, owe to the place where they are, and how such
 -- statements are put together.
 use Rattle.std.proofs.Common.{◌≡◌, ℕ, ◌+◌, Bool, true, false, ◌||◌, List, [], ◌∷◌, ◌++◌, map, flat_map, refl, sym, ◌∙◌, ap, subst, arith, append-nil, append_assoc, inl, inr, IsPermutation}
 use Rattle.std.specs.List.{list_all, list_any, range_with_len}
@@ -17,7 +17,7 @@ use Rattle.ba_typing.specs.Names.{exits_of_loop, exits_of_switch}
 use Rattle.ba_typing.specs.declared.names.Exits.{Exits}
 use Rattle.ba_typing_facts.proofs.FittingFacts.{call_numbers, range-append}
 
--- NUMBERS: each of so many from the first on stands once in the list
+-- NUMBERS: each of so many from the first on occurs once in the list
 
 pub record IsEach (first count : ℕ) (ns : List ℕ) : Type 0 where
   pub order : IsPermutation (range_with_len first count) ns
@@ -71,8 +71,8 @@ some_break = list_any (λ (s : StmtFacts). s.breaks)
 abbrev pub some_continue : List StmtFacts → Bool
 some_continue = list_any (λ (s : StmtFacts). s.continues)
 
--- Behind so many statements and calls, there are so many of each; they name variables among these; a `break`
--- or `continue` that belongs to a statement around them may stand in them.
+-- After these counts of statements and calls there are this many of each. They name variables among these. A
+-- `break` or `continue` of a statement around them may be in them.
 pub record AreStmts (p : Parts) (owned : List VarId) (before count calls_before calls : ℕ) (exits : Exits)
     (ss : List StmtFacts) : Type 0 where
   pub sound : all_sound ss ≡ true
@@ -144,7 +144,7 @@ module _ (p : Parts) (owned : List VarId) where
             [ inl e ↦ h.continues e | inr e ↦ g.continues e ];
       }
 
-  -- where a loop is around
+  -- if a loop is around
   pub loosen : {before m calls_before k : ℕ} {exits : Exits} {xs : List StmtFacts}
       → AreStmts p owned before m calls_before k exits xs
       → AreStmts p owned before m calls_before k exits_of_loop xs

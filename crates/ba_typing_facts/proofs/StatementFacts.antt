@@ -293,7 +293,7 @@ module _ (p : program.Parts) (owned : List VarId) (f : Function) where
       (bare_statement y)))
   statement_form y = y.form.1
 
-  -- it holds of a tree where it holds of what its form makes of the parts
+  -- it holds of a tree if it holds of what its form makes of the parts
   by_form : {A F S : Type 0} (holds : S → Type 0) (add : A → S) (roll : F → A) (step : F → S)
       → ((z : F) → add (roll z) ≡ step z) → (z x : F) → z ≡ x → holds (step z) → holds (add (roll x))
   by_form holds add roll step rolls z x is h = subst (λ y. holds (add (roll y))) is (subst holds (sym

@@ -51,7 +51,7 @@ any_value : (starts : List Start) (z : ℤ) → list_any (λ y. int_eq y z) (val
 any_value [] z = refl
 any_value (s ∷ ss) z = ap (λ b. int_eq s.value z || b) (any_value ss z)
 
--- a value that is none of these comes behind them
+-- a value that is none of these comes after them
 one_more : (zs : List ℤ) (z : ℤ) → list_any (λ y. int_eq y z) zs ≡ false → values_differ zs ≡ true
     → values_differ (zs ++ z ∷ []) ≡ true
 one_more [] z new differ = refl
@@ -164,7 +164,7 @@ groups_so_far t at (g ∷ gs) labels count scope n none h =
 module _ (p : Parts) (owned : List VarId) (f : Function) where
   -- GROUPS
 
-  -- a label adds no statement, and where it has no fault no call
+  -- a label adds no statement, and if it has no fault no call
   label_piece : (t : CType) (at : At) (l : Label) (labels : Labels) (count : ℕ) (scope : Scope)
       → InScope p owned f true scope → (n : Before)
       → (add_label t at l labels count scope n.calls).added.faults ≡ []

@@ -1,4 +1,4 @@
-//! What a typed program keeps: the typed tree of a parser's tree without faults has every fact of programs, by a law.
+//! Soundness of the type system: the typed program of a tree without faults has every fact of programs.
 #![tactic(auto)]
 
 ghost use Rattle.std.specs.Prelude.{◌≡◌, [], Some, IsTrue};
@@ -8,7 +8,7 @@ ghost use Rattle.ba_tree.specs.declared.tree.Parts.{Parts};
 ghost use Rattle.ba_trees.specs.declared.tree.statements.RawProgram.{RawProgram};
 ghost use Rattle.ba_typing.specs.Files.{faults_of, typed_of};
 
-/// Law: the typed program of a tree without faults keeps every fact of programs.
+/// Law: the typed program of a tree without faults has every fact of programs.
 pub fn typed_programs_are_sound()
     ensures { (tree : RawProgram) (parts : Parts) → faults_of tree.externals.items ≡ []
         → typed_of tree.externals.items ≡ Some (tree_of_parts parts) → IsTrue (is_program parts) }

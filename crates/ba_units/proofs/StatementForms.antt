@@ -21,7 +21,7 @@ use Rattle.ba_units.specs.declared.frame.Frame.{Frame}
 use Rattle.ba_units.specs.declared.setting.Setting.{Setting}
 use Rattle.ba_units.proofs.Maps.{sum_by-map}
 
--- what stands behind `else`
+-- what follows `else`
 abbrev pub otherwise_units : Setting → ℕ → Frame → Option (Box Stmt) → ℕ
 otherwise_units w n frame Option.None = 0
 otherwise_units w n frame (Option.Some part) = stmt_units w n frame part.value

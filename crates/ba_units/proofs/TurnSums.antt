@@ -1,16 +1,17 @@
--- What is left behind the turns of a loop, by what is left behind one.
+-- What is left after the iterations of a loop, by what is left after one.
 use Rattle.std.proofs.Common.{◌≡◌, ℕ, ◌+◌, ◌-◌, ◌*◌, ◌^◌, ◌<◌, ◌≤◌, min, suc, zero, ◌⊎◌, inl, inr, sym, ◌∙◌, ap, suc-mul, mul-add, add-mul, arith}
 use Rattle.std.proofs.lemmas.Bool.{cases_lt}
 use Rattle.ba_tree.specs.Units.{loop_units}
 
--- all conditions, bodies and steps are one condition and then turns of a condition, a body and a step each
+-- all conditions, bodies and steps are one condition and then iterations of a condition, a body and a step
+-- each
 turns-are : (t c b s : ℕ) → loop_units t c b s ≡ c + t * (c + (b + s))
 turns-are t c b s =
     let conditions : (t + 1) * c ≡ t * c + 1 * c = add-mul t 1 c in
     let all : t * (c + (b + s)) ≡ t * c + t * (b + s) = mul-add t c (b + s) in
     omega arith
 
--- no more than what is left is seen of a turn
+-- no more than what is left is seen of an iteration
 turns-left : (t left d once : ℕ) → once ≡ min left d → (c : ℕ) → c ≤ d
     → (left - c) - t * once ≡ left - (c + t * d)
 turns-left zero left d once seen c part = omega arith

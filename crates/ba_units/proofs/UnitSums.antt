@@ -1,4 +1,4 @@
--- The units of a whole program, from what is left behind its parts.
+-- The units of a whole program, from what is left after its parts.
 use Rattle.std.proofs.Common.{◌≡◌, ℕ, ◌+◌, ◌-◌, min, List, sym, ◌∙◌, ap, arith}
 use Rattle.std.specs.Prelude.{sum_by}
 use Rattle.ba_numbers.specs.declared.ids.VarId.{VarId}

@@ -9,7 +9,7 @@ use ba_numbers::numbers::BinOp;
 use ba_tree::lookup::variable_of;
 use ba_tree::tree::{Program, Shape, Start};
 
-/// How many elements a variable of this shape has of its own; none where it is no array.
+/// How many elements a variable of this shape owns; 0 if it is no array.
 pub fn declared_length(shape: Shape) -> u32
     ensures { result ≡ declared_length shape }
 {
@@ -30,7 +30,7 @@ fn declaration_units(shape: Shape) -> u32
     }
 }
 
-/// What is left behind the declaration of a variable.
+/// The units left after the declaration of a variable.
 pub fn left_after_declaration(program: &Program, left: u32, var: VarId) -> u32
     ensures { result ≡ left - declaration_units (variable_of program.now var).shape }
 {
@@ -38,14 +38,14 @@ pub fn left_after_declaration(program: &Program, left: u32, var: VarId) -> u32
     left.saturating_sub(declaration_units(shape))
 }
 
-/// What an element of an array of so many costs, read or written, without its index.
+/// The units of one read or write of an element of an array of `length`, without its index.
 pub fn element_units(length: u32) -> u32
     ensures { result ≡ element_units length }
 {
     1 + length.div_ceil(3)
 }
 
-/// What a binary operator costs without its operands.
+/// The units of a binary operator without its operands.
 pub fn operator_units(op: BinOp) -> u32
     ensures { result ≡ operator_units op }
 {
@@ -57,15 +57,15 @@ pub fn operator_units(op: BinOp) -> u32
     }
 }
 
-/// What is left behind the `case` labels of a `switch`, which cost 1 each.
+/// The units left after the `case` labels of a `switch`, which cost 1 each.
 pub fn left_after_labels(left: u32, starts: &[Start]) -> u32
     ensures { result ≡ left - length starts.now }
 {
     (left as usize).saturating_sub(starts.len()) as u32
 }
 
-/// What is left behind a loop of so many turns, where `left` are left before it, `condition` behind one of its conditions, and `turn`
-/// behind a condition and a turn.
+/// The units left after a loop of at most `turns` iterations. Before it `left` are left, after one of its
+/// conditions `condition`, and after a condition and an iteration `turn`.
 pub fn left_after_turns(turns: u32, left: u32, condition: u32, turn: u32) -> u32
     ensures { (c b s : ℕ) → condition ≡ left - c → turn ≡ (condition - b) - s
         → result ≡ left - loop_units turns c b s }

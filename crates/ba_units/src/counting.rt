@@ -1,4 +1,4 @@
-//! What is left of so many units behind expressions, statements and calls.
+//! The units left after expressions, statements and calls.
 
 ghost use Rattle.std.specs.Prelude.{◌≡◌, ◌+◌, ◌-◌};
 ghost use Rattle.ba_tree.specs.Units.{loop_units};
@@ -13,7 +13,7 @@ use ba_numbers::ids::FnId;
 use ba_tree::lookup::function_of;
 use ba_tree::tree::{Arg, Expr, Stmt};
 
-/// What is left behind an expression.
+/// The units left after an expression.
 #[cycle(units)]
 fn left_after_expr<'t>(
     setting: &Setting<'t>,
@@ -64,7 +64,7 @@ fn left_after_expr<'t>(
     }
 }
 
-/// What is left behind expressions in a row.
+/// The units left after expressions in a row.
 #[cycle(units)]
 fn left_after_exprs<'t>(
     setting: &Setting<'t>,
@@ -82,7 +82,7 @@ fn left_after_exprs<'t>(
     rest
 }
 
-/// What is left behind an argument.
+/// The units left after an argument.
 #[cycle(units)]
 fn left_after_arg<'t>(
     setting: &Setting<'t>,
@@ -102,7 +102,7 @@ fn left_after_arg<'t>(
     }
 }
 
-/// What is left behind the arguments of a call.
+/// The units left after the arguments of a call.
 #[cycle(units)]
 fn left_after_args<'t>(
     setting: &Setting<'t>,
@@ -120,7 +120,7 @@ fn left_after_args<'t>(
     rest
 }
 
-/// What is left behind a call: its arguments, and the function's body where one more frame may begin.
+/// The units left after a call: its arguments, and the function's body if one more frame may begin.
 #[cycle(units)]
 fn left_after_call<'t>(
     setting: &Setting<'t>,
@@ -144,7 +144,7 @@ fn left_after_call<'t>(
     left_after_stmts(setting, frames - 1, &inside, left, function.body.as_slice())
 }
 
-/// What is left behind a statement.
+/// The units left after a statement.
 #[cycle(units)]
 fn left_after_stmt<'t>(
     setting: &Setting<'t>,
@@ -235,7 +235,7 @@ fn left_after_stmt<'t>(
     }
 }
 
-/// What is left behind statements in a row. No further one is looked at once nothing is left.
+/// The units left after statements in a row. No further one is counted once nothing is left.
 #[cycle(units)]
 pub fn left_after_stmts<'t>(
     setting: &Setting<'t>,
@@ -256,7 +256,7 @@ pub fn left_after_stmts<'t>(
     rest
 }
 
-/// What is left behind a loop of this condition, body and step. Each of them is counted once.
+/// The units left after a loop of this condition, body and step. Each of them is counted once.
 #[cycle(units)]
 fn left_after_loop<'t>(
     setting: &Setting<'t>,

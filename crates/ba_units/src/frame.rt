@@ -1,4 +1,4 @@
-//! The frames around what is counted, and the arrays that their variables name.
+//! Frames of calls, and the arrays that their variables name.
 
 ghost use Rattle.std.specs.Prelude.{◌≡◌, ◌==◌, Some, None, cond, map, option_map};
 ghost use Rattle.ba_tree.specs.Units.{bound_lengths, declared_lengths, length_at};
@@ -10,10 +10,10 @@ use ba_numbers::ids::VarId;
 use ba_tree::lookup::variable_of;
 use ba_tree::tree::{Arg, Program};
 
-/// The frame of what is counted: that of `main` and of the initialisers of the globals, or that of a function that a call in another
-/// frame gives these arguments.
+/// A frame: that of `main` and the initialisers of the globals, or that of a function whose call in another
+/// frame has these arguments.
 ///
-/// A frame refers to that of its caller, so that no memory is taken.
+/// A frame refers to that of its caller, so no memory is taken.
 #[derive(Clone, Copy)]
 pub enum Frame<'t, 'c> {
     Main,
@@ -32,7 +32,7 @@ impl<'t, 'c> Frame<'t, 'c> {
         Frame::Main
     }
 
-    /// The frame of a function of these parameters, to which a call in the caller's frame gives these arguments.
+    /// The frame of a function with these parameters, called in the caller's frame with these arguments.
     pub fn called(caller: &'c Frame<'t, 'c>, params: &'t [VarId], args: &'t [Arg]) -> Frame<'t, 'c>
         ensures { (p : Program) → lengths_of p result ≡ bound_lengths params.now
             (map (elements_of (lengths_of p caller.now)) args.now) (declared_lengths p) }
@@ -45,7 +45,7 @@ impl<'t, 'c> Frame<'t, 'c> {
     }
 }
 
-/// The later one of two arguments where its parameter is the variable that is looked for.
+/// The later one of two arguments if its parameter is the wanted variable.
 fn later<'t>(is_wanted: bool, arg: &'t Arg, found: Option<&'t Arg>) -> Option<&'t Arg>
     ensures { option_map (λ arg. arg.now) result
         ≡ cond is_wanted (Some arg.now) (option_map (λ arg. arg.now) found.entry) }
@@ -53,7 +53,7 @@ fn later<'t>(is_wanted: bool, arg: &'t Arg, found: Option<&'t Arg>) -> Option<&'
     if is_wanted { Some(arg) } else { found }
 }
 
-/// The argument that a call gives for the variable, where it is one of these parameters.
+/// The argument that a call gives for the variable, if it is one of these parameters.
 fn argument_for<'t>(params: &[VarId], args: &'t [Arg], var: VarId) -> Option<&'t Arg>
     ensures { option_map (λ arg. arg.now) result ≡ argument_at params.now args.now var None }
 {
@@ -64,14 +64,14 @@ fn argument_for<'t>(params: &[VarId], args: &'t [Arg], var: VarId) -> Option<&'t
     found
 }
 
-/// How many elements the array has that is declared as this variable.
+/// How many elements a variable owns by its declaration.
 fn own_length(program: &Program, var: VarId) -> u32
     ensures { result ≡ length_at (declared_lengths program.now) var }
 {
     declared_length(variable_of(program, var).shape)
 }
 
-/// How many elements the array has that the variable names in a frame; none where it is no array.
+/// How many elements the array has that the variable names in a frame; 0 if it is no array.
 pub fn length_of(program: &Program, frame: &Frame, var: VarId) -> u32
     ensures { result ≡ length_at (lengths_of program.now frame.now) var }
 {

@@ -1,8 +1,8 @@
-//! The size of a program once its calls are replaced by bodies and its loops by turns.
+//! The size of a program whose calls are replaced by bodies and whose loops by their iterations.
 //!
-//! [`units`] gives exactly the number of the definition, or one past the limit of 20,000 where it is larger. It takes no memory. A loop
-//! is counted by one turn, each call takes at least one unit of what is left up to the limit, and no further statement is looked at once
-//! nothing is left.
+//! [`units`] gives exactly the number of the definition, or 20,001 if it is larger. It takes no memory. A
+//! loop is counted by one iteration. Each call takes at least one unit of what is left up to the limit, and
+//! nothing is counted once nothing is left.
 #![tactic(auto)]
 
 mod costs;

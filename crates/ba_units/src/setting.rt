@@ -1,8 +1,8 @@
-//! What stands still while a program is counted.
+//! What stays the same while a program is counted.
 
 use ba_tree::tree::Program;
 
-/// What stands still while a program is counted: its tree, and how many turns each loop has.
+/// What stays the same while a program is counted: its tree, and the bound on iterations.
 #[derive(Clone, Copy)]
 pub struct Setting<'t> {
     pub program: &'t Program,

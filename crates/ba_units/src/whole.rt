@@ -14,10 +14,10 @@ use ba_tree::lookup::main_body;
 use ba_tree::run::Bounds;
 use ba_tree::tree::Program;
 
-/// One past the greatest number of units that is taken.
+/// One more than the limit on units.
 const PAST_LIMIT: u32 = 20_001;
 
-/// What is left behind the declarations of these variables.
+/// The units left after the declarations of these variables.
 fn left_after_declarations(program: &Program, left: u32, vars: &[VarId]) -> u32
     ensures { result ≡ left - sum_by (λ v. declaration_units (variable_of program.now v).shape)
         vars.now }
@@ -29,10 +29,11 @@ fn left_after_declarations(program: &Program, left: u32, vars: &[VarId]) -> u32
     rest
 }
 
-/// The units of a program within these bounds: the sum over the program of what its forms cost, with each call replaced by the
-/// function's body down to the depth, and each loop by its turns; or 20,001 where the sum is larger.
+/// The units of a program within these bounds, or 20,001 if there are more.
 ///
-/// The bounds are within their limits: from 1 to 128 turns, and from 1 to 32 frames. It takes no memory.
+/// They are the sum of what its forms cost. Each call is replaced by the function's body, down to the depth,
+/// and each loop by its iterations. The bounds have to be within their limits: 1 to 128 iterations and 1 to
+/// 32 frames. It takes no memory.
 pub fn units(program: &Program, bounds: Bounds) -> u32
     requires bounds { are_bounds bounds ≡ true }
     ensures { result ≡ min (units_of program.now bounds) 20001 }

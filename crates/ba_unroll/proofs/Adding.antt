@@ -1,4 +1,4 @@
--- Nodes put behind others.
+-- Nodes put after others.
 use Rattle.std.proofs.Common.{◌≡◌, ℕ, true, ◌&&◌, Ok, Err, List, [], ◌∷◌, ◌++◌, map, refl, sym, ◌∙◌, ap, subst, append-nil, append_assoc}
 use Rattle.std.proofs.lemmas.Bool.{and_from}
 use Rattle.std.proofs.lemmas.List.{map-append}
@@ -87,7 +87,7 @@ pub made-unrolled : (act : Acts) (stands : Stands) (ns : List Node) → Adds act
     → list_all is_unrolled ns ≡ true
 made-unrolled act stands ns made = ap (list_all is_unrolled) made.is ∙ made.unrolled
 
--- the same nodes behind others, or behind none
+-- the same nodes after others, or after none
 pub adds-behind : {act : Acts} {stands : Stands} {old new : List Node} (other : List Node)
     → (added : Adds act stands old new) → Adds act stands other (other ++ added.made)
 adds-behind other added = record {

@@ -96,7 +96,7 @@ module _ (bound : ℕ) (turns : List ℕ) (n : Node) (old : List Node) where
       (forms.unrolled-Block label made
       ∙ made-unrolled (nodes_act bound turns body.items) (all_inside body.items) made.items inside))
 
--- made of the nodes that stand last
+-- made of the nodes that are last
 module _ (bound : ℕ) (turns : List ℕ) (n : Node) (old new : List Node) where
   abbrev AddsIt : Type 0
   AddsIt = Adds (node_act bound turns n) (node_inside n) old new
@@ -160,7 +160,7 @@ adds-branch when act stands old rest none read empty made =
     (made-unrolled act stands rest.items made)
     (ap (list_all is_unrolled) empty))
 
--- a branch made of the nodes that stand last
+-- a branch made of the nodes that are last
 pub branch-made : (when : Operand) (act : Acts) (stands : Stands) (old mid behind new : List Node)
     → ((d : Declared) (labels : List ℕ) → stands d labels ≡ true → is_operand d when ≡ true)
     → (rest : Adds act stands old mid) → EndsIn behind (IsIf when rest.made []) new

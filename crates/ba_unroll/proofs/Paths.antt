@@ -1,4 +1,4 @@
--- Paths in present turns.
+-- Paths in present iterations.
 use Rattle.std.proofs.Common.{◌≡◌, ℕ, List, [], reverse, ◌∙◌, ap}
 use Rattle.std.proofs.lemmas.List.{reverse-reverse}
 use Rattle.ba_code.specs.Meaning.{filled, path_in}

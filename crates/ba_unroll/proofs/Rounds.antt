@@ -1,4 +1,4 @@
--- A loop is its turns, one inside the other.
+-- A loop is its iterations, one inside the other.
 use Rattle.std.proofs.Common.{◌≡◌, ℕ, zero, suc, ◌+◌, ◌-◌, ◌<◌, ℤ, Bool, true, false, ◌&&◌, List, [], ◌∷◌, ◌++◌, refl, sym, ◌∙◌, ap, subst, add-one, arith}
 use Rattle.std.proofs.lemmas.Bool.{and_parts}
 use Rattle.std.specs.Global.{Vec}
@@ -34,7 +34,7 @@ module _ (bound : ℕ) (turns : List ℕ) (parts : Parts) (g : Setting) where
   abbrev past : CodeExecution
   past = past_bound parts.stmt
 
-  -- the turns from this one on
+  -- the iterations from this one on
   abbrev inside : ℕ → ℕ → CodeExecution
   inside left k = turns_act bound turns parts left k g
 
@@ -53,7 +53,7 @@ module _ (bound : ℕ) (turns : List ℕ) (parts : Parts) (g : Setting) where
       (ap (and_then (turn k)) (head-rounds is left (k + 1))
       ∙ turn-then left k (k + 1) (ap (λ b. turn_of_head b k) is))
 
-  -- behind a turn of a `do` comes the head of that turn
+  -- after an iteration of a `do` comes the head of that iteration
   abbrev tail_rounds : ℕ → ℕ → CodeExecution
   tail_rounds = headed_rounds (head_behind head) (value_behind when) (λ k. turn (k + 1)) past
 
@@ -88,7 +88,7 @@ module _ (bound : ℕ) (turns : List ℕ) (parts : Parts) (g : Setting) where
 -- NODES
 
 module _ (bound : ℕ) (turns : List ℕ) (parts : Parts) where
-  -- what holds where the loop stands
+  -- what holds where the loop is
   inside-parts : (d : Declared) (labels : List ℕ) → loop_inside parts d labels ≡ true
       → (is_operand d parts.when ≡ true) × (all_inside parts.head.now d labels ≡ true)
       × (all_inside parts.body.now d labels ≡ true) × (all_inside parts.step.now d labels ≡ true)
@@ -105,7 +105,7 @@ module _ (bound : ℕ) (turns : List ℕ) (parts : Parts) where
       (nodes_act bound (turn ∷ turns) parts.step.now))
       (nodes_act bound (turn_of_head parts.after turn ∷ turns) parts.head.now)
 
-  -- the body, the step and the head behind them
+  -- the body, the step and the head after them
   pub turn-row : (turn : ℕ) (old body step head : List Node)
       → Adds (nodes_act bound (turn ∷ turns) parts.body.now) (all_inside parts.body.now) old body
       → Adds (nodes_act bound (turn ∷ turns) parts.step.now) (all_inside parts.step.now) body step
@@ -153,7 +153,7 @@ module _ (bound : ℕ) (turns : List ℕ) (parts : Parts) where
       (branch-made parts.when left (loop_inside parts) mid last mid new
       (λ d labels here. (inside-parts d labels here).0) rest ends))
 
-  -- one with its head behind each turn
+  -- one with its head after each iteration
   pub adds-tail-loop : (old new : List Node) → parts.after ≡ true
       → Adds (turns_act bound turns parts bound 1) (loop_inside parts) old new
       → Adds (loop_act bound turns parts) (loop_inside parts) old new
@@ -161,7 +161,7 @@ module _ (bound : ℕ) (turns : List ℕ) (parts : Parts) where
       adds-same (turns_act bound turns parts bound 1) (loop_act bound turns parts) (loop_inside parts) old new
       (λ g. tail-loop bound turns parts g is) made
 
-  -- the turns that are left, one more
+  -- the iterations that are left, one more
   pub more-turns : (left n : ℕ) → left < n
       → turn_act bound turns parts (n - left) (turns_act bound turns parts left (n - left + 1))
       ≡ turns_act bound turns parts (left + 1) (n - (left + 1) + 1)

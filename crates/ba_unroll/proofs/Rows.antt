@@ -63,7 +63,7 @@ pub row-of : (bound : ℕ) (turns : List ℕ) (ns ms old new : List Node) → ns
 row-of bound turns ns ms old new same row =
     subst (λ (ns : List Node). Adds (nodes_act bound turns ns) (all_inside ns) old new) same row
 
--- in the same turns
+-- in the same iterations
 pub row-in : (bound : ℕ) (ts us : List ℕ) (ns old new : List Node) → ts ≡ us
     → Adds (nodes_act bound ts ns) (all_inside ns) old new
     → Adds (nodes_act bound us ns) (all_inside ns) old new

@@ -9,9 +9,9 @@ use Rattle.ba_numbers.specs.declared.ids.StmtId.{StmtId}
 use Rattle.ba_tree.specs.declared.run.Input.{Input}
 use Rattle.ba_tree.specs.declared.run.Step.{Step}
 
--- The tree without loops has the outcomes that the other has where each entry of a loop has at most so many
--- turns: for every input, whatever
--- may be relaxed, for all choices, and whatever the bound that it is run with itself.
+-- The tree without loops has the outcomes of the other tree with at most `turns` iterations of each entry of
+-- a loop. This holds for every input, for all that may be relaxed, for all choices, and whatever bound the
+-- tree without loops is run with.
 pub record HasOutcomes (made : BoundTree) (tree : LoopTree) (turns : ℕ) : Type 0 where
   pub same : (input : Input) (own : ℕ) (relaxes : List Step → StmtId → Bool) (choices : List Choice)
       → outcome_of_code (code_of_bound made) input own relaxes choices

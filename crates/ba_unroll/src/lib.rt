@@ -1,7 +1,8 @@
-//! Programs without calls whose loops become turns.
+//! Bounded loop unrolling, as in bounded model checking (Clarke, Kroening and Lerda, "A tool for checking
+//! ANSI-C programs").
 //!
-//! [`unroll`] copies the body of each loop once for each turn that the bound allows. A turn stands inside the branch that the condition
-//! before it takes, so that what follows a false condition is reached without a label. No other crate sees how.
+//! [`unroll`] copies the body of each loop once for each iteration that the bound allows. An iteration is
+//! inside the branch that its condition takes, so a false condition needs no label.
 #![tactic(auto)]
 
 mod nodes;

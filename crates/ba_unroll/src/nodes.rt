@@ -1,4 +1,4 @@
-//! Nodes whose loops become turns.
+//! Nodes whose loops become iterations.
 
 ghost use Rattle.std.specs.Prelude.{◌≡◌, ◌++◌, ◌∷◌, ℕ, OnOk, IfOk, List, [], length};
 ghost use Rattle.ba_code.specs.Meaning.{Setting};
@@ -14,7 +14,7 @@ use ba_numbers::ids::StmtId;
 use ba_tree::run::Place;
 use std::alloc::{AllocError, Global};
 
-/// Puts a node behind the others.
+/// Appends a node.
 fn add(out: &mut Vec<Node>, node: Node) -> Result<(), AllocError>
     ensures { OnOk result (out.new.items ≡ out.old.items ++ node ∷ []) }
 {
@@ -22,7 +22,7 @@ fn add(out: &mut Vec<Node>, node: Node) -> Result<(), AllocError>
     Ok(())
 }
 
-/// The nodes from this place on, which are taken off.
+/// Removes the nodes from this index on, and gives them.
 fn taken_off(alloc: Global, out: &mut Vec<Node>, place: usize) -> Result<Vec<Node>, AllocError>
     ensures { IfOk result (λ nodes. (old made : List Node) → place ≡ length old
         → out.old.items ≡ old ++ made → (out.new.items ≡ old) × (nodes.items ≡ made)) }
@@ -33,7 +33,7 @@ fn taken_off(alloc: Global, out: &mut Vec<Node>, place: usize) -> Result<Vec<Nod
     out.split_off(place)
 }
 
-/// Makes the nodes from this place on those of an execution of a statement that may be relaxed.
+/// Makes the nodes from this index on those of an execution of a statement that may be relaxed.
 #[inline(never)]
 fn wrap_pick(
     alloc: Global,
@@ -52,7 +52,7 @@ fn wrap_pick(
     add(out, Node::Pick { place, take, keep })
 }
 
-/// Makes the nodes from one place on, and from another, the sides of a branch.
+/// Makes a branch of the last nodes: one side begins at one index, the other at another.
 #[inline(never)]
 fn wrap_if(
     alloc: Global,
@@ -70,7 +70,7 @@ fn wrap_if(
     add(out, Node::If { when, yes, no })
 }
 
-/// Makes the nodes from this place on the body of a block.
+/// Makes the nodes from this index on the body of a block.
 #[inline(never)]
 fn wrap_block(
     alloc: Global,
@@ -85,7 +85,7 @@ fn wrap_block(
     add(out, Node::Block { label, body })
 }
 
-/// Puts the nodes from one place on, up to another, into a branch behind those from there on.
+/// Moves the nodes from one index on, up to another, into a branch after those from there on.
 #[inline(never)]
 fn wrap_rest(
     alloc: Global,
@@ -111,7 +111,7 @@ fn wrap_rest(
     )
 }
 
-/// Adds the end of a run that needs one more turn of the loop of this statement.
+/// Appends the end of a run that needs one more iteration of the loop of this statement.
 #[inline(never)]
 fn add_beyond(out: &mut Vec<Node>, stmt: StmtId) -> Result<(), AllocError>
     ensures { OnOk result (out.new.items ≡ out.old.items ++ node.Beyond stmt ∷ []) }
@@ -119,7 +119,7 @@ fn add_beyond(out: &mut Vec<Node>, stmt: StmtId) -> Result<(), AllocError>
     add(out, Node::Beyond { stmt })
 }
 
-/// Adds a node without nodes inside once more; others are answered as if out of memory.
+/// Appends a copy of a node without nodes inside. Any other node is answered as out of memory.
 #[inline(never)]
 fn add_leaf(alloc: Global, node: &Node, out: &mut Vec<Node>) -> Result<(), AllocError>
     ensures { OnOk result ((bound : ℕ) (turns : List ℕ)
@@ -222,7 +222,8 @@ fn add_leaf(alloc: Global, node: &Node, out: &mut Vec<Node>) -> Result<(), Alloc
     }
 }
 
-/// Adds what the node does in these turns of the loops around, innermost first, where each entry of a loop has at most so many turns.
+/// Appends the copy of a node in these iterations of the loops around, innermost first, with the bound on
+/// iterations.
 #[cycle(unroll)]
 fn add_node(
     alloc: Global,
@@ -281,7 +282,7 @@ fn add_node(
     }
 }
 
-/// Adds what the nodes do, one after the other.
+/// Appends the copies of nodes, one after the other.
 #[cycle(unroll)]
 pub fn add_nodes(
     alloc: Global,
@@ -299,8 +300,8 @@ pub fn add_nodes(
     Ok(())
 }
 
-/// Puts a turn of this number and the head behind it before the nodes from this place on, which are what is left of the loop where the
-/// condition is true then.
+/// Puts an iteration of this number and the head after it before the nodes from this index on. Those are the
+/// rest of the loop if the condition is true then.
 #[cycle(unroll)]
 #[inline(never)]
 fn add_turn(
@@ -326,8 +327,8 @@ fn add_turn(
     wrap_rest(alloc, out, start, middle, parts.when)
 }
 
-/// Adds all turns of a loop, from its first, where as many as the bound come; its end behind the last one where the condition is true
-/// then.
+/// Appends all iterations of a loop, from its first, as many as the bound allows. If the condition is true
+/// after the last, the run ends.
 #[cycle(unroll)]
 fn add_turns(
     alloc: Global,
@@ -347,7 +348,7 @@ fn add_turns(
     Ok(())
 }
 
-/// Adds what a loop does: its head and the turns, or the turns alone where no head comes before the first.
+/// Appends a loop: its head and the iterations, or the iterations alone if no head comes before the first.
 #[cycle(unroll)]
 #[inline(never)]
 fn add_loop(

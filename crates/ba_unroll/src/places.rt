@@ -1,4 +1,4 @@
-//! Places in present turns.
+//! Places with the present iterations of loops.
 
 ghost use Rattle.std.specs.Prelude.{◌≡◌, true, IfOk, List, ◌∷◌, reverse};
 ghost use Rattle.std.specs.List.{list_all};
@@ -10,7 +10,8 @@ use ba_items::Items;
 use ba_tree::run::{Place, Step};
 use std::alloc::{AllocError, Global};
 
-/// The step where these are the present turns of the loops around, innermost first, and those that are left for the steps outside it.
+/// The step with the present iterations of the loops around, innermost first, and the iterations left for the
+/// steps outside it.
 fn step_in<'t>(turns: &'t [u32], step: Step) -> (Step, &'t [u32])
     ensures { (path : List Step) → filled turns.now (step ∷ path)
         ≡ result.0 ∷ filled result.1.now path }
@@ -24,7 +25,7 @@ fn step_in<'t>(turns: &'t [u32], step: Step) -> (Step, &'t [u32])
     }
 }
 
-/// The path, innermost step first, in these present turns.
+/// The path, innermost step first, with these present iterations.
 fn steps_in(alloc: Global, turns: &[u32], path: &[Step]) -> Result<Vec<Step>, AllocError>
     ensures { IfOk result (λ steps. steps.items ≡ filled turns.now path.now) }
 {
@@ -38,7 +39,7 @@ fn steps_in(alloc: Global, turns: &[u32], path: &[Step]) -> Result<Vec<Step>, Al
     Ok(steps)
 }
 
-/// Whether the step is a call, or a turn that is counted from 1.
+/// Whether the step is a call, or an iteration that is counted from 1.
 fn has_number(step: Step) -> bool
     ensures { result ≡ is_counted step }
 {
@@ -48,16 +49,18 @@ fn has_number(step: Step) -> bool
     }
 }
 
-/// Whether all turns of the path are counted from 1.
+/// Whether all iterations of the path are counted from 1.
 fn have_numbers(path: &[Step]) -> bool
     ensures { result ≡ list_all is_counted path.now }
 {
     path.iter().all(|step| has_number(*step))
 }
 
-/// The place in these present turns of the loops around, innermost first: each turn of number 0 gets the number of its loop's turn.
+/// The place with the present iterations of the loops around, innermost first. Each iteration of number 0
+/// gets the number of its loop's iteration.
 ///
-/// The one error is want of memory. A place with more turns of number 0 than there are loops around, which no program has, ends so too.
+/// The only error is out of memory. A place with more iterations of number 0 than loops around, which no
+/// program has, is answered so too.
 pub fn place_in(alloc: Global, turns: &[u32], place: &Place) -> Result<Place, AllocError>
     ensures path { IfOk result (λ made. made.path
         ≡ reverse (path_in turns.now place.now.path)) }

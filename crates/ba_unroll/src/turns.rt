@@ -1,4 +1,4 @@
-//! The turns of loops, and their numbers.
+//! The iterations of loops, and their numbers.
 
 ghost use Rattle.std.specs.Prelude.{◌≡◌, ◌∷◌, IfOk};
 ghost use Rattle.ba_unroll.specs.Unrolling.{turn_of_head};
@@ -7,7 +7,8 @@ use ba_code::nodes::{Node, Operand};
 use ba_numbers::ids::StmtId;
 use std::alloc::{AllocError, Global};
 
-/// The parts of a loop: `head` comes before each turn and behind the last, or, where `after` is true, behind each turn.
+/// The parts of a loop. `head` comes before each iteration and after the last; or after each iteration if
+/// `after` is true.
 #[derive(Clone, Copy)]
 pub struct Parts<'t> {
     pub after: bool,
@@ -18,9 +19,10 @@ pub struct Parts<'t> {
     pub stmt: StmtId,
 }
 
-/// The turn that the head belongs to which comes behind this turn: the turn that it begins, or in a `do` the one that it ends.
+/// The iteration of the head that comes after this iteration: the iteration that it begins, or in a `do` the
+/// one that it ends.
 ///
-/// The one error is want of memory, which stands for the end of the numbers too.
+/// The only error is out of memory, also if the numbers run out.
 pub fn turn_behind(after: bool, turn: u32) -> Result<u32, AllocError>
     ensures { IfOk result (λ head. head ≡ turn_of_head after turn) }
 {
@@ -30,7 +32,8 @@ pub fn turn_behind(after: bool, turn: u32) -> Result<u32, AllocError>
     turn.checked_add(1).ok_or(AllocError)
 }
 
-/// The turns of the loops around with that of one more loop inside them, innermost first. The one error is want of memory.
+/// The iterations of the loops around, with that of one more loop inside them, innermost first. The only
+/// error is out of memory.
 pub fn with_turn(alloc: Global, turn: u32, turns: &[u32]) -> Result<Vec<u32>, AllocError>
     ensures { IfOk result (λ inner. inner.items ≡ turn ∷ turns.now) }
 {

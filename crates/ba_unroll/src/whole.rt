@@ -8,14 +8,14 @@ use ba_code::trees::{BoundTree, LoopTree};
 use ba_items::Items;
 use std::alloc::{AllocError, Global};
 
-/// The tree with each loop replaced by its turns, of which each entry has at most `turns`: a condition that is true after the last one
-/// leads to a `Beyond` of the loop's statement.
+/// The tree with each loop replaced by at most `turns` iterations for each entry. A condition that is true
+/// after the last one leads to a `Beyond` of the loop's statement.
 ///
-/// It has the same variables, arrays and parameters, and for every input, whatever may be relaxed and whatever the choices, the
-/// outcome of the tree with that bound on turns.
+/// It has the same variables, arrays and parameters. It has the outcome of the tree with that bound on
+/// iterations, for every input, all that may be relaxed, and all choices.
 ///
-/// The one error is want of memory. It stands too for a place with more turns of number 0 than there are loops around, which no program
-/// has, and for the end of the numbers of turns.
+/// The only error is out of memory. It is answered also if the numbers of iterations run out. So is a place
+/// with more iterations of number 0 than loops around, which no program has.
 pub fn unroll(alloc: Global, tree: &LoopTree, turns: u32) -> Result<BoundTree, AllocError>
     ensures vars { IfOk result (λ made. made.vars ≡ tree.now.vars) }
     ensures arrays { IfOk result (λ made. made.arrays ≡ tree.now.arrays) }

@@ -19,7 +19,7 @@ plain_counts a heads old t index k =
     sym (no_more (eqb index old) (occurrences k (list_of a heads index)) _ (ap (occurrences k) nothing))
     ∙ t.counts index k
 
--- a clause r is new: nothing stood there, and the others stay
+-- a clause r is new: nothing was there, and the others stay
 pub record IsNew (a a' : Clauses) (r : ℕ) (s : Stored) : Type 0 where
   pub fresh : clause_at a r ≡ None
   pub is : clause_at a' r ≡ Some s

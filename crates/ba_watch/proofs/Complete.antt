@@ -5,9 +5,9 @@ use Rattle.std.proofs.lemmas.Bool.{cases_lt}
 use Rattle.ba_lits.specs.Literals.{Literal, negate, index_of, lit_at}
 use Rattle.ba_arena.specs.Clauses.{Clauses, IsLive, lits_at}
 use Rattle.ba_watch.specs.Threads.{plain_at}
-use Rattle.ba_watch.specs.Trails.{Assignments, same_sign, value_of, place_of, decided, level_at}
+use Rattle.ba_watch.specs.Trails.{Assignments, same_sign, value_of, trail_index, decided, level_at}
 use Rattle.ba_watch.specs.Propagation.{falsified, is_false, unit_step, is_unit, IsGuarded, AreFacts, AreUnits, IsVisiting, AreVisited, VisitsSome, IsUnderway, Propagates}
-use Rattle.ba_watch.proofs.Values.{value_of-place, value_of-take, value_of-take_none, place_of-some, lit_at-place, same_sign_false}
+use Rattle.ba_watch.proofs.Values.{value_of-place, value_of-take, value_of-take_none, trail_index-some, lit_at-place, same_sign_false}
 use Rattle.ba_watch.proofs.Levels.{decided-take_drop, decided-take-le}
 use Rattle.ba_watch.proofs.Visits.{SameClause-refl, SameClause-trans, Begins-refl, Begins-trans}
 
@@ -28,8 +28,8 @@ IsGuarded-next : (L : ℕ → List Literal) (v : ℕ) (T : List Literal) (R : Li
 IsGuarded-next L v T R h f a b s g visited a_false before = ⊎_elim
     (λ below. g a_false below)
     (λ above.
-    let at : place_of T a.variable ≡ h = omega (arith, above, before) in
-    let within : place_of T a.variable < length T = place_of-some T a false a_false in
+    let at : trail_index T a.variable ≡ h = omega (arith, above, before) in
+    let within : trail_index T a.variable < length T = trail_index-some T a false a_false in
     let var : (lit_at T h).variable ≡ a.variable = ap (λ (p : ℕ). (lit_at T p).variable) (sym at)
     ∙ lit_at-place T a.variable within in
     let sign : same_sign (lit_at T h).negated a.negated ≡ false =
@@ -41,8 +41,8 @@ IsGuarded-next L v T R h f a b s g visited a_false before = ⊎_elim
     let total = decided-take_drop (h + 1) R in
     let rest : decided (drop (h + 1) R) ≡ 0 = ap (λ (k : ℕ). decided (drop k R)) (plus_one h)
     ∙ s.facts.present in
-    (b_true, omega (arith, decided-le (place_of T b.variable + 1) R, total, rest, ap (level_at R) at)))
-    (cases_lt (place_of T a.variable) h)
+    (b_true, omega (arith, decided-le (trail_index T b.variable + 1) R, total, rest, ap (level_at R) at)))
+    (cases_lt (trail_index T a.variable) h)
   where
     some_is : (x y : Bool) → Some x ≡ Some y → x ≡ y
     some_is x y e = cc e
@@ -113,17 +113,17 @@ front_guard : (T : List Literal) (R : List (Option ℕ)) (h m : ℕ) (a b : Lite
     IsBoundary R (length T) m → m ≤ h → IsGuarded T R h a b → value_of (take m T) a ≡ Some false →
     value_of (take m T) b ≡ Some true
 front_guard T R h m a b bound le g a_false =
-    let a_in : place_of T a.variable < m = ⊎_elim (λ below. below)
+    let a_in : trail_index T a.variable < m = ⊎_elim (λ below. below)
     (λ above. absurd (clash (sym a_false ∙ value_of-take_none m T a above)))
-    (cases_lt (place_of T a.variable) m) in
+    (cases_lt (trail_index T a.variable) m) in
     let old = g (sym (value_of-take m T a a_in) ∙ a_false) (omega arith) in
-    let b_in : place_of T b.variable < m = ⊎_elim (λ below. below)
+    let b_in : trail_index T b.variable < m = ⊎_elim (λ below. below)
     (λ above. absurd (omega (
       arith,
       old.1,
-      bound.higher (place_of T a.variable) (place_of T b.variable) a_in
-          above (place_of-some T b true old.0),
-    ))) (cases_lt (place_of T b.variable) m) in
+      bound.higher (trail_index T a.variable) (trail_index T b.variable) a_in
+          above (trail_index-some T b true old.0),
+    ))) (cases_lt (trail_index T b.variable) m) in
     value_of-take m T b b_in ∙ old.0
   where
     clash : {x : Bool} → Some x ≡ None → ⊥
@@ -178,13 +178,13 @@ complete_at a v T R h m facts units bound le r live = ⊎_elim
     (λ short.
     let l : Literal = lit_at (lits_at a r) 0 in
     let is_true : value_of T l ≡ Some true = units.true_ r live short refl in
-    let within : place_of T l.variable < m = ⊎_elim (λ below. below)
+    let within : trail_index T l.variable < m = ⊎_elim (λ below. below)
     (λ above. absurd (omega (
       arith,
       units.level r live short refl,
-      bound.decided_ (place_of T l.variable)
-          above (place_of-some T l true is_true),
-    ))) (cases_lt (place_of T l.variable) m) in
+      bound.decided_ (trail_index T l.variable)
+          above (trail_index-some T l true is_true),
+    ))) (cases_lt (trail_index T l.variable) m) in
     short_clause (value_of (take m T)) (lits_at a r) (units.one r live short refl)
     (value_of-take m T l within ∙ is_true))
     (λ long. long_clause (value_of (take m T)) (lits_at a r) long

@@ -13,7 +13,7 @@ use Rattle.ba_arena.specs.Clauses.{Clauses, Stored, IsLive, clause_at, lits_at, 
 use Rattle.ba_arena.proofs.Reading.{stored_some}
 use Rattle.ba_watch.specs.Chains.{occurrences}
 use Rattle.ba_watch.specs.Threads.{Clause, plain, plain_at}
-use Rattle.ba_watch.specs.Trails.{Assignments, value_of, place_of, decided, level_at}
+use Rattle.ba_watch.specs.Trails.{Assignments, value_of, trail_index, decided, level_at}
 use Rattle.ba_watch.specs.Propagation.{clause_in, plain_lits, IsReason, IsGuarded, AreFacts, AreUnits, IsSound}
 use Rattle.ba_watch.specs.Deletion.{Deletes, DeletesAll, MayDelete, MayLink, IsKept, AreAlone, number_of, unnamed_of}
 use Rattle.ba_watch.proofs.Visits.{lits-plain, some-plain}
@@ -207,9 +207,9 @@ module _ (a : Clauses) (n : ℕ) (p : Option ℕ) (t : Assignments) (h : ℕ) (w
           omega (
             arith,
             out.1,
-            levels (place_of t.lits y.variable),
+            levels (trail_index t.lits y.variable),
             levels
-                (place_of t.lits x.variable),
+                (trail_index t.lits x.variable),
           ),
         )
 
@@ -275,7 +275,7 @@ module _ (a : Clauses) (n : ℕ) (p : Option ℕ) (t : Assignments) (h : ℕ) (w
       pub one : length (lits_at a' q) ≡ 1
       pub true_ : value_of t.lits (lit_at (lits_at a' q) 0) ≡ Some true
       pub level : level_at (map (option_map d.moved) t.reasons)
-          (place_of t.lits (lit_at (lits_at a' q) 0).variable) ≡ 0
+          (trail_index t.lits (lit_at (lits_at a' q) 0).variable) ≡ 0
 
     unit_at : (q : ℕ) → IsLive a' q → length (lits_at a' q) < 2 → occurrences q w' ≡ 0 → IsUnit q
     unit_at q live short none =
@@ -293,8 +293,8 @@ module _ (a : Clauses) (n : ℕ) (p : Option ℕ) (t : Assignments) (h : ℕ) (w
               ∙ sound.units.one r f.live old_short absent;
           true_ = ap (λ (ls : List Literal). value_of t.lits (lit_at ls 0)) (sym f.same)
               ∙ sound.units.true_ r f.live old_short absent;
-          level = levels (place_of t.lits (lit_at (lits_at a' q) 0).variable)
-              ∙ (ap (λ (ls : List Literal). level_at t.reasons (place_of t.lits (lit_at ls 0).variable))
+          level = levels (trail_index t.lits (lit_at (lits_at a' q) 0).variable)
+              ∙ (ap (λ (ls : List Literal). level_at t.reasons (trail_index t.lits (lit_at ls 0).variable))
               (sym f.same)
               ∙ sound.units.level r f.live old_short absent);
         }

@@ -153,7 +153,7 @@ threaded_same a a' heads v same t =
 pub lits_same : (a b : Clauses) → SamePlain a b → (k : ℕ) → lits_at b k ≡ lits_at a k
 lits_same a b same k = lits-plain b k ∙ (ap plain_lits (same k) ∙ sym (lits-plain a k))
 
--- where there is no clause, all lists are empty
+-- if there is no clause, all lists are empty
 pub threaded_none : (a : Clauses) (heads : List (Option ℕ)) (v : ℕ) → ((k : ℕ) → clause_at a k ≡ None)
     → ((k : ℕ) → get_or heads k None ≡ None) → AreThreaded a heads v None
 threaded_none a heads v none empty =

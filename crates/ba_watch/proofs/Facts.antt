@@ -8,9 +8,9 @@ use Rattle.ba_lits.specs.Literals.{Literal, negate, index_of, lit_at, no_literal
 use Rattle.ba_lits.specs.Hints.{has_literal}
 use Rattle.ba_lits.proofs.Members.{has_literal-not, has_literal-none}
 use Rattle.ba_arena.specs.Clauses.{Clauses, lits_at}
-use Rattle.ba_watch.specs.Trails.{same_sign, value_of, place_of, decided, level_at, IsTrail}
+use Rattle.ba_watch.specs.Trails.{same_sign, value_of, trail_index, decided, level_at, IsTrail}
 use Rattle.ba_watch.specs.Propagation.{falsified, is_false, IsReason, HasReasons, IsGuarded, AreGuarded, AreFacts, AreUnits}
-use Rattle.ba_watch.proofs.Values.{value_of-more, value_of-take, place_of-some, place_of-append}
+use Rattle.ba_watch.proofs.Values.{value_of-more, value_of-take, trail_index-some, trail_index-append}
 use Rattle.ba_watch.proofs.Levels.{decided-append}
 use Rattle.ba_watch.proofs.Swaps.{each-swap, each-from_swap}
 
@@ -32,11 +32,11 @@ value_of-negate (t ∷ ts) l b has = step (eqb t.variable l.variable) t.negated 
     step false s n v w rest has = rest has
 
 -- a place in front stays
-pub place_of-front : (xs ys : List Literal) (x : ℕ) → place_of (xs ++ ys) x < length xs →
-    place_of xs x ≡ place_of (xs ++ ys) x
-place_of-front [] ys x within = absurd (omega arith)
-place_of-front (t ∷ ts) ys x within = step (eqb t.variable x) (place_of ts x) (place_of (ts ++ ys) x)
-    (length ts) (place_of-front ts ys x) within
+pub trail_index-front : (xs ys : List Literal) (x : ℕ) → trail_index (xs ++ ys) x < length xs →
+    trail_index xs x ≡ trail_index (xs ++ ys) x
+trail_index-front [] ys x within = absurd (omega arith)
+trail_index-front (t ∷ ts) ys x within = step (eqb t.variable x) (trail_index ts x) (trail_index (ts ++ ys) x)
+    (length ts) (trail_index-front ts ys x) within
   where
     step : (c : Bool) (p q n : ℕ) → (q < n → p ≡ q) → cond c 0 (suc q) < suc n →
         cond c 0 (suc p) ≡ cond c 0 (suc q)
@@ -49,15 +49,16 @@ level_at-append R S p within = ap decided (take-append-le (p + 1) R S (omega ari
 pub IsGuarded-append : (T U : List Literal) (R S : List (Option ℕ)) (h : ℕ) (a b : Literal) →
     length R ≡ length T → h ≤ length T → IsGuarded T R h a b → IsGuarded (T ++ U) (R ++ S) h a b
 IsGuarded-append T U R S h a b len le g a_false a_before =
-    let p_is : place_of T a.variable ≡ place_of (T ++ U) a.variable =
-    place_of-front T U a.variable (omega arith) in
+    let p_is : trail_index T a.variable ≡ trail_index (T ++ U) a.variable =
+    trail_index-front T U a.variable (omega arith) in
     let front : value_of T a ≡ Some false =
     ap (λ (ys : List Literal). value_of ys a) (sym (take_at T U (length T) refl))
     ∙ (value_of-take (length T) (T ++ U) a (omega arith) ∙ a_false) in
     let old = g front (omega arith) in
-    let b_in : place_of T b.variable < length T = place_of-some T b true old.0 in
-    let b_is : place_of (T ++ U) b.variable ≡ place_of T b.variable = place_of-append T U b.variable b_in in
-    let a_in : place_of T a.variable < length T = omega arith in (
+    let b_in : trail_index T b.variable < length T = trail_index-some T b true old.0 in
+    let b_is : trail_index (T ++ U) b.variable ≡ trail_index T b.variable =
+    trail_index-append T U b.variable b_in in
+    let a_in : trail_index T a.variable < length T = omega arith in (
       value_of-more T U b true old.0,
       omega (
         arith,
@@ -65,8 +66,8 @@ IsGuarded-append T U R S h a b len le g a_false a_before =
         ap (level_at (R ++ S)) b_is,
         ap (level_at (R ++ S)) p_is,
         level_at-append R S
-            (place_of T b.variable) (omega arith),
-        level_at-append R S (place_of T a.variable) (omega arith),
+            (trail_index T b.variable) (omega arith),
+        level_at-append R S (trail_index T a.variable) (omega arith),
       ),
     )
 
@@ -107,7 +108,7 @@ present-push R x h le old new = ⊎_elim
     (λ above. ap decided (drop_all (suc h) (R ++ x ∷ []) (omega (arith, length_push R x))))
     (cases_lt h (length R))
 
--- a literal is put on the trail: with a reason, or as a decision where propagation has come to the end
+-- a literal is put on the trail: with a reason, or as a decision if propagation has come to the end
 pub AreFacts-push : (L : ℕ → List Literal) (v : ℕ) (T : List Literal) (R : List (Option ℕ)) (h : ℕ)
     (t : Literal) (x : Option ℕ) → AreFacts L v T R h → IsTrail v (T ++ t ∷ []) (R ++ x ∷ [])
     → ((r : ℕ) → x ≡ Some r → IsReason (L r) T t) → (h < length T → decided (x ∷ []) ≡ 0) →
@@ -132,9 +133,10 @@ AreUnits-push a T U R S waiting len u = record {
   true_ = λ r live short none. value_of-more T U (lit_at (lits_at a r) 0) true (u.true_ r live short none);
   level = λ r live short none.
       let l : Literal = lit_at (lits_at a r) 0 in
-      let within : place_of T l.variable < length T = place_of-some T l true (u.true_ r live short none) in
-      ap (level_at (R ++ S)) (place_of-append T U l.variable within)
-      ∙ (level_at-append R S (place_of T l.variable) (omega arith) ∙ u.level r live short none);
+      let within : trail_index T l.variable < length T =
+      trail_index-some T l true (u.true_ r live short none) in
+      ap (level_at (R ++ S)) (trail_index-append T U l.variable within)
+      ∙ (level_at-append R S (trail_index T l.variable) (omega arith) ∙ u.level r live short none);
   live = u.live;
   short = u.short;
 }

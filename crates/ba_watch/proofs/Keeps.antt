@@ -1,5 +1,5 @@
--- The two ways in which the next clause of the visited list leaves it: back into it, or into the list of
--- another literal that it watches from now on.
+-- The next clause of the visited list leaves it in two ways. It goes back, or into the list of another
+-- literal that it watches from now on.
 
 use Rattle.std.proofs.Common.{◌≡◌, ◌≢◌, ℕ, suc, zero, ◌+◌, ◌<◌, ◌≤◌, Bool, true, false, Option, None, Some, List, [], ◌∷◌, length, get_or, set, eqb, leb, cond, ◌&&◌, refl, sym, ap, subst, ◌∙◌, arith, get_or-set_same, get_or-set_other}
 use Rattle.std.proofs.lemmas.Bool.{eq-eqb}

@@ -222,7 +222,7 @@ pub pending_long_at : (a : Clauses) (heads : List (Option ℕ)) (f r : ℕ) (pen
 pending_long_at a heads f r pending t e = pending_long a heads f r
     (subst (λ (p : Option ℕ). AreThreaded a heads f p) e t)
 
--- the clause has the visited literal at place 1 where it hasn't at place 0
+-- the clause has the visited literal at place 1 if it hasn't at place 0
 pub pending_other : (a : Clauses) (heads : List (Option ℕ)) (f r : ℕ) (pending : Option ℕ) →
     AreThreaded a heads f pending → pending ≡ Some r → index_at (lits_at a r) 0 ≢ f →
     index_at (lits_at a r) 1 ≡ f

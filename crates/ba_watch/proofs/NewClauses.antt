@@ -12,9 +12,9 @@ use Rattle.ba_lits.specs.Hints.{has_literal}
 use Rattle.ba_arena.specs.Clauses.{Clauses, IsLive, clause_at, lits_at}
 use Rattle.ba_watch.specs.Chains.{occurrences}
 use Rattle.ba_watch.specs.Threads.{Clause, AddsPlain}
-use Rattle.ba_watch.specs.Trails.{Assignments, value_of, place_of, place_if, decided, level_at}
+use Rattle.ba_watch.specs.Trails.{Assignments, value_of, trail_index, trail_index_if, decided, level_at}
 use Rattle.ba_watch.specs.Propagation.{State, plain_lits, SameClause, falsified, IsReason, IsGuarded, AreFacts, AreUnits, IsSound, AddsClause, IsAsserting, rank_of}
-use Rattle.ba_watch.proofs.Values.{place_of-some, place_of-le}
+use Rattle.ba_watch.proofs.Values.{trail_index-some, trail_index-le}
 use Rattle.ba_watch.proofs.Levels.{decided-take_drop, decided-take-le}
 use Rattle.ba_watch.proofs.Swaps.{each-swap, lit_at-swap_first, lit_at-swap_other}
 use Rattle.ba_watch.proofs.TrailSteps.{placed}
@@ -23,16 +23,16 @@ use Rattle.ba_watch.proofs.Sounds.{state, clause_in-map}
 
 -- ranks
 pub rank-false : (T : List Literal) (l : Literal) → value_of T l ≡ Some false →
-    rank_of T l ≡ place_of T l.variable
-rank-false T l e = ap (λ (v : Option Bool). cond (falsified v) (place_of T l.variable) (length T)) e
+    rank_of T l ≡ trail_index T l.variable
+rank-false T l e = ap (λ (v : Option Bool). cond (falsified v) (trail_index T l.variable) (length T)) e
 
 pub rank-none : (T : List Literal) (l : Literal) → value_of T l ≡ None → rank_of T l ≡ length T
-rank-none T l e = ap (λ (v : Option Bool). cond (falsified v) (place_of T l.variable) (length T)) e
+rank-none T l e = ap (λ (v : Option Bool). cond (falsified v) (trail_index T l.variable) (length T)) e
 
 pub rank_placed : (T : List Literal) (l : Literal) → value_of T l ≡ Some false →
-    None ≡ place_if T l.variable → ⊥
-rank_placed T l e none = clash (none ∙ placed T l.variable (place_of T l.variable)
-    (place_of-some T l false e) refl)
+    None ≡ trail_index_if T l.variable → ⊥
+rank_placed T l e none = clash (none ∙ placed T l.variable (trail_index T l.variable)
+    (trail_index-some T l false e) refl)
   where
     clash : {n : ℕ} → None ≡ Some n → ⊥
     clash e = cc e
@@ -111,7 +111,7 @@ module _ (a a' : Clauses) (r : ℕ) (lits : List Literal) (number : ℕ) (adds :
               ap (λ (ls : List Literal). value_of T (lit_at ls 0)) (old_lits k ne)
               ∙ u.true_ k (sym (old_live k ne) ∙ live) (omega (arith, short, ap length (old_lits k ne))) none;
           level = λ k live short none. let ne = other k short in
-              ap (λ (ls : List Literal). level_at R (place_of T (lit_at ls 0).variable)) (old_lits k ne)
+              ap (λ (ls : List Literal). level_at R (trail_index T (lit_at ls 0).variable)) (old_lits k ne)
               ∙ u.level k (sym (old_live k ne) ∙ live) (omega (arith, short, ap length (old_lits k ne))) none;
           live = λ k some. old_live k (old_one k (u.live k some)) ∙ u.live k some;
           short = λ k some. omega (arith, u.short k some, ap length (old_lits k (old_one k (u.live k some))));
@@ -138,7 +138,7 @@ module _ (a a' : Clauses) (r : ℕ) (lits : List Literal) (number : ℕ) (adds :
               ∙ u.true_ k (sym (old_live k ne) ∙ live) (omega (arith, short, ap length (old_lits k ne)))
               (fewer k none);
           level = λ k live short none. let ne = other k none in
-              ap (λ (ls : List Literal). level_at R (place_of T (lit_at ls 0).variable)) (old_lits k ne)
+              ap (λ (ls : List Literal). level_at R (trail_index T (lit_at ls 0).variable)) (old_lits k ne)
               ∙ u.level k (sym (old_live k ne) ∙ live) (omega (arith, short, ap length (old_lits k ne)))
               (fewer k none);
           live = λ k some. ⊎_elim
@@ -241,21 +241,21 @@ present_long s lits h first second len h_le present ground' first_latest second_
       arith,
       top,
       rank-false s.trail (lit_at lits first) f,
-      place_of-some s.trail
+      trail_index-some s.trail
           (lit_at lits first) false f,
     )))
     (cases_eq first asserting.free) in
     let apart : asserting.recent ≢ first = λ e. absurd
     (clash (sym asserting.recent_false ∙ (ap (λ (n : ℕ). value_of s.trail (lit_at lits n)) (e ∙ is_free)
     ∙ asserting.free_none))) in
-    let recent : place_of s.trail (lit_at lits asserting.recent).variable ≤ q =
+    let recent : trail_index s.trail (lit_at lits asserting.recent).variable ≤ q =
     omega (
       arith,
       second_latest asserting.recent asserting.recent_in apart,
       rank-false s.trail
           (lit_at lits asserting.recent) asserting.recent_false,
     ) in
-    let more = decided-take-le (place_of s.trail (lit_at lits asserting.recent).variable + 1) (suc q)
+    let more = decided-take-le (trail_index s.trail (lit_at lits asserting.recent).variable + 1) (suc q)
     s.reasons (omega (arith, recent)) in
     ap (λ (n : ℕ). decided (drop (suc n) s.reasons)) same
     ∙ omega (arith, more, asserting.recent_level, decided-take_drop (suc q) s.reasons))
@@ -275,8 +275,8 @@ present_long s lits h first second len h_le present ground' first_latest second_
     clash e = cc e
 
     rank_le : (l : Literal) → rank_of s.trail l ≤ length s.trail
-    rank_le l = by (falsified (value_of s.trail l)) (place_of s.trail l.variable) (length s.trail)
-        (place_of-le s.trail l.variable)
+    rank_le l = by (falsified (value_of s.trail l)) (trail_index s.trail l.variable) (length s.trail)
+        (trail_index-le s.trail l.variable)
       where
         by : (b : Bool) (m n : ℕ) → m ≤ n → cond b m n ≤ n
         by true m n h = h

@@ -11,7 +11,7 @@ use Rattle.ba_lits.proofs.Members.{has_literal-at}
 use Rattle.ba_arena.specs.Clauses.{Clauses, lits_at}
 use Rattle.ba_watch.specs.Chains.{occurrences}
 use Rattle.ba_watch.specs.Threads.{index_at}
-use Rattle.ba_watch.specs.Trails.{Assignments, same_sign, value_of, place_of, decided, IsTrail}
+use Rattle.ba_watch.specs.Trails.{Assignments, same_sign, value_of, trail_index, decided, IsTrail}
 use Rattle.ba_watch.specs.Propagation.{IsReason, AreFacts, AreUnits, AssignsUnits, AssignsUnit}
 use Rattle.ba_watch.proofs.Values.{value_of-push_here}
 use Rattle.ba_watch.proofs.Levels.{decided-append, decided-take_drop}
@@ -131,7 +131,7 @@ Units-pop a t u waiting rest r units is step level =
       level = λ k live short none. omega (
         arith,
         decided-take_drop
-            (place_of u.lits (lit_at (lits_at a k) 0).variable + 1) u.reasons,
+            (trail_index u.lits (lit_at (lits_at a k) 0).variable + 1) u.reasons,
         step.steps.level,
         level,
       );

@@ -8,9 +8,9 @@ use Rattle.std.proofs.lemmas.List.{take_all, take-take, length-take-le, drop_all
 use Rattle.ba_lits.specs.Literals.{Literal, lit_at, no_literal}
 use Rattle.ba_arena.specs.Clauses.{Clauses, IsLive, lits_at}
 use Rattle.ba_watch.specs.Threads.{AreApart, Clause, plain, plain_at}
-use Rattle.ba_watch.specs.Trails.{Assignments, value_of, place_of, decided, level_at, kept, IsTrail}
+use Rattle.ba_watch.specs.Trails.{Assignments, value_of, trail_index, decided, level_at, kept, IsTrail}
 use Rattle.ba_watch.specs.Propagation.{State, plain_lits, clause_in, lits_in, SameClause, is_false, is_unit, IsComplete, IsReason, HasReasons, IsGuarded, AreFacts, AreUnits, IsSound, Propagates, AssignsUnits, Extends, KeepsFacts}
-use Rattle.ba_watch.proofs.Values.{value_of-take, value_of-take_none, place_of-some, place_of-take}
+use Rattle.ba_watch.proofs.Values.{value_of-take, value_of-take_none, trail_index-some, trail_index-take}
 use Rattle.ba_watch.proofs.Levels.{decided-append, decided-take_drop, decided-take-le, decided-take_step, kept_below, kept_above, kept-le, decided-kept}
 use Rattle.ba_watch.proofs.Facts.{AreFacts-push, AreUnits-push}
 use Rattle.ba_watch.proofs.Visits.{lits-plain, some-plain, Begins-trans}
@@ -260,16 +260,16 @@ module _ (L : ℕ → List Literal) (v : ℕ) (T : List Literal) (R : List (Opti
       let m : ℕ = kept level R in
       let m_le : m ≤ length T = back_within in
       let len : length (take m T) ≡ m = length-take-le m T m_le in
-      let a_in : place_of T a.variable < m = ⊎_elim (λ below. below)
+      let a_in : trail_index T a.variable < m = ⊎_elim (λ below. below)
       (λ above. absurd (clash (sym a_false ∙ value_of-take_none m T a above)))
-      (cases_lt (place_of T a.variable) m) in
+      (cases_lt (trail_index T a.variable) m) in
       let old = g (sym (value_of-take m T a a_in) ∙ a_false) (omega (arith, back_le)) in
-      let b_in : place_of T b.variable < m = back_kept (place_of T b.variable)
-      (place_of-some T b true old.0) (omega (arith, old.1, back_level (place_of T a.variable) a_in)) in
-      let a_same : place_of (take m T) a.variable ≡ place_of T a.variable =
-      place_of-take m T a.variable a_in m_le in
-      let b_same : place_of (take m T) b.variable ≡ place_of T b.variable =
-      place_of-take m T b.variable b_in m_le in
+      let b_in : trail_index T b.variable < m = back_kept (trail_index T b.variable)
+      (trail_index-some T b true old.0) (omega (arith, old.1, back_level (trail_index T a.variable) a_in)) in
+      let a_same : trail_index (take m T) a.variable ≡ trail_index T a.variable =
+      trail_index-take m T a.variable a_in m_le in
+      let b_same : trail_index (take m T) b.variable ≡ trail_index T b.variable =
+      trail_index-take m T b.variable b_in m_le in
       let level_same : (p : ℕ) → p < m → level_at (take m R) p ≡ level_at R p =
       λ p below. ap decided (take-take (p + 1) m R (omega arith)) in (
         value_of-take m T b b_in ∙ old.0,
@@ -279,8 +279,8 @@ module _ (L : ℕ → List Literal) (v : ℕ) (T : List Literal) (R : List (Opti
           ap (level_at (take m R)) a_same,
           ap (level_at (take m R)) b_same,
           level_same
-              (place_of T a.variable) a_in,
-          level_same (place_of T b.variable) b_in,
+              (trail_index T a.variable) a_in,
+          level_same (trail_index T b.variable) b_in,
         ),
       )
     where
@@ -318,9 +318,9 @@ module _ (L : ℕ → List Literal) (v : ℕ) (T : List Literal) (R : List (Opti
   back_units a u =
       let m : ℕ = kept level R in
       let m_le : m ≤ length T = back_within in
-      let stays : (l : Literal) → value_of T l ≡ Some true → level_at R (place_of T l.variable) ≡ 0 →
-      place_of T l.variable < m =
-      λ l is_true zero_level. back_kept (place_of T l.variable) (place_of-some T l true is_true)
+      let stays : (l : Literal) → value_of T l ≡ Some true → level_at R (trail_index T l.variable) ≡ 0 →
+      trail_index T l.variable < m =
+      λ l is_true zero_level. back_kept (trail_index T l.variable) (trail_index-some T l true is_true)
       (omega (arith, zero_level)) in
       record {
         one = u.one;
@@ -329,10 +329,10 @@ module _ (L : ℕ → List Literal) (v : ℕ) (T : List Literal) (R : List (Opti
             ∙ u.true_ r live short none;
         level = λ r live short none.
             let l : Literal = lit_at (lits_at a r) 0 in
-            let below : place_of T l.variable < m = stays l (u.true_ r live short none)
+            let below : trail_index T l.variable < m = stays l (u.true_ r live short none)
             (u.level r live short none) in
-            ap (level_at (take m R)) (place_of-take m T l.variable below m_le)
-            ∙ (ap decided (take-take (place_of T l.variable + 1) m R (omega arith))
+            ap (level_at (take m R)) (trail_index-take m T l.variable below m_le)
+            ∙ (ap decided (take-take (trail_index T l.variable + 1) m R (omega arith))
             ∙ u.level r live short none);
         live = u.live;
         short = u.short;

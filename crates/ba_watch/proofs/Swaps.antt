@@ -62,7 +62,7 @@ each-from_swap P lits a b a_in b_in each k k_in =
     (cases_eq k b))
     (cases_eq k a)
 
--- the place where the literal at a place stood before
+-- the place where the literal at a place was before
 abbrev sigma : ℕ → ℕ → ℕ → ℕ
 sigma a b n = cond (eqb n a) b (cond (eqb n b) a n)
 

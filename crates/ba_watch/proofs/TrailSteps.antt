@@ -7,9 +7,9 @@ use Rattle.std.proofs.lemmas.List.{length-set, length-take-le, length-append, le
 use Rattle.std.proofs.lemmas.Bool.Decides.{nat_tests}
 use Rattle.std.proofs.lemmas.List.Sums.{sum_by-set, sum_by-append, count_by-le-length}
 use Rattle.ba_lits.specs.Literals.{Literal, lit_at, no_literal}
-use Rattle.ba_watch.specs.Trails.{value_of, place_of, place_if, decided, level_at, Assignments, IsTrail, with_sign, Holds}
+use Rattle.ba_watch.specs.Trails.{value_of, trail_index, trail_index_if, decided, level_at, Assignments, IsTrail, with_sign, Holds}
 use Rattle.ba_watch.proofs.Levels.{decided-append, decided-le-length, decided-take_step}
-use Rattle.ba_watch.proofs.Values.{value_of-push_here, value_of-push_there, value_of-none, value_of-at, none_apart, signed-not_same, place_of-some, place_of-none, lit_at-place}
+use Rattle.ba_watch.proofs.Values.{value_of-push_here, value_of-push_there, value_of-none, value_of-at, none_apart, signed-not_same, trail_index-some, trail_index-none, lit_at-place}
 
 with_sign-none : (s : Bool) (v : Option Bool) → with_sign s v ≡ None → v ≡ None
 with_sign-none s None e = refl
@@ -499,17 +499,17 @@ pub small : (b : Bool) → cond {A = ℕ} b 0 1 ≤ 1
 small true = omega arith
 small false = omega arith
 
-pub placed : (xs : List Literal) (x p : ℕ) → place_of xs x < length xs → p ≡ place_of xs x →
-    place_if xs x ≡ Some p
-placed xs x p within is = ap (λ (b : Bool). cond b (Some (place_of xs x)) None)
-    (yes (place_of xs x) (length xs) within) ∙ ap (λ (q : ℕ). Some q) (sym is)
+pub placed : (xs : List Literal) (x p : ℕ) → trail_index xs x < length xs → p ≡ trail_index xs x →
+    trail_index_if xs x ≡ Some p
+placed xs x p within is = ap (λ (b : Bool). cond b (Some (trail_index xs x)) None)
+    (yes (trail_index xs x) (length xs) within) ∙ ap (λ (q : ℕ). Some q) (sym is)
   where
     yes : (a b : ℕ) → a < b → ltb a b ≡ true
     yes a b h = grind (arith, nat_tests)
 
-unplaced : (xs : List Literal) (x : ℕ) → place_of xs x ≡ length xs → place_if xs x ≡ None
-unplaced xs x past = ap (λ (b : Bool). cond b (Some (place_of xs x)) None)
-    (no' (place_of xs x) (length xs) past)
+unplaced : (xs : List Literal) (x : ℕ) → trail_index xs x ≡ length xs → trail_index_if xs x ≡ None
+unplaced xs x past = ap (λ (b : Bool). cond b (Some (trail_index xs x)) None)
+    (no' (trail_index xs x) (length xs) past)
   where
     no' : (a b : ℕ) → a ≡ b → ltb a b ≡ false
     no' a b h = grind (arith, nat_tests)
@@ -529,7 +529,7 @@ module _ (variables : ℕ) (lits : List Literal) (reasons : List (Option ℕ)) (
     (record { variables = variables; lits = take n lits; reasons = take n reasons }) s)
     (x : ℕ) (counted : 1 ≤ x) (within : x ≤ s.variables) where
   pub place_some : (v : Option Bool) (p : ℕ) → v ≡ get_or values (x - 1) v → is_some v ≡ true →
-      p ≡ get_or places (x - 1) p → Some p ≡ place_if s.lits x
+      p ≡ get_or places (x - 1) p → Some p ≡ trail_index_if s.lits x
   place_some v p v_is some p_is =
       let l : Literal = record { variable = x; negated = false } in
       let len : length (take n lits) ≡ n = length-take-le n lits
@@ -540,19 +540,20 @@ module _ (variables : ℕ) (lits : List Literal) (reasons : List (Option ℕ)) (
       let b = some_value v some in
       let value : value_of (take n lits) l ≡ Some b.0 = sym (h.values_are l counted x_le)
       ∙ (ap (with_sign false) (sym read) ∙ ap (with_sign false) b.1) in
-      let p_in : place_of (take n lits) x < length (take n lits) = place_of-some (take n lits) l b.0 value in
-      let at : (lit_at (take n lits) (place_of (take n lits) x)).variable ≡ x =
+      let p_in : trail_index (take n lits) x < length (take n lits) =
+      trail_index-some (take n lits) l b.0 value in
+      let at : (lit_at (take n lits) (trail_index (take n lits) x)).variable ≡ x =
       lit_at-place (take n lits) x p_in in
-      let q : get_or places (x - 1) 0 ≡ place_of (take n lits) x =
+      let q : get_or places (x - 1) 0 ≡ trail_index (take n lits) x =
       ap (λ (m : ℕ). get_or places (m - 1) 0) (sym at)
-      ∙ h.places_are (place_of (take n lits) x) (omega arith) in
+      ∙ h.places_are (trail_index (take n lits) x) (omega arith) in
       let p_read : p ≡ get_or places (x - 1) 0 = get_or_read places (x - 1) p (omega (arith, h.places_room))
       p_is 0 in
-      sym (ap (λ (a : Assignments). place_if a.lits x) (sym seen)
+      sym (ap (λ (a : Assignments). trail_index_if a.lits x) (sym seen)
       ∙ placed (take n lits) x p p_in (p_read ∙ q))
 
   pub place_none : (v : Option Bool) → v ≡ get_or values (x - 1) v → is_some v ≡ false →
-      None ≡ place_if s.lits x
+      None ≡ trail_index_if s.lits x
   place_none v v_is none =
       let l : Literal = record { variable = x; negated = false } in
       let x_le : x ≤ variables = subst (λ (a : Assignments). x ≤ a.variables) (sym seen) within in
@@ -560,5 +561,5 @@ module _ (variables : ℕ) (lits : List Literal) (reasons : List (Option ℕ)) (
       (omega (arith, h.values_room)) v_is None in
       let value : value_of (take n lits) l ≡ None = sym (h.values_are l counted x_le)
       ∙ (ap (with_sign false) (sym read) ∙ ap (with_sign false) (no_value v none)) in
-      sym (ap (λ (a : Assignments). place_if a.lits x) (sym seen)
-      ∙ unplaced (take n lits) x (place_of-none (take n lits) l value))
+      sym (ap (λ (a : Assignments). trail_index_if a.lits x) (sym seen)
+      ∙ unplaced (take n lits) x (trail_index-none (take n lits) l value))

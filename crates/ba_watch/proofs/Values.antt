@@ -6,7 +6,7 @@ use Rattle.std.proofs.lemmas.Bool.{eq-eqb, ne_eqb, cases_eq}
 use Rattle.std.proofs.lemmas.Bool.Decides.{nat_tests}
 use Rattle.ba_lits.specs.Literals.{Literal, lit_at, no_literal}
 use Rattle.ba_lits.specs.Satisfaction.{signed}
-use Rattle.ba_watch.specs.Trails.{same_sign, value_of, place_of}
+use Rattle.ba_watch.specs.Trails.{same_sign, value_of, trail_index}
 
 -- the first of two values
 abbrev pub or_else : Option Bool → Option Bool → Option Bool
@@ -65,40 +65,42 @@ value_of-push_there xs t l ne =
     last (Some b) = refl
 
 -- places
-pub place_of-le : (xs : List Literal) (x : ℕ) → place_of xs x ≤ length xs
-place_of-le [] x = omega arith
-place_of-le (t ∷ ts) x = step (eqb t.variable x) (place_of ts x) (length ts) (place_of-le ts x)
+pub trail_index-le : (xs : List Literal) (x : ℕ) → trail_index xs x ≤ length xs
+trail_index-le [] x = omega arith
+trail_index-le (t ∷ ts) x = step (eqb t.variable x) (trail_index ts x) (length ts) (trail_index-le ts x)
   where
     step : (c : Bool) (p n : ℕ) → p ≤ n → cond c 0 (suc p) ≤ suc n
     step true p n h = omega arith
     step false p n h = omega arith
 
-pub place_of-some : (xs : List Literal) (l : Literal) (b : Bool) → value_of xs l ≡ Some b →
-    place_of xs l.variable < length xs
-place_of-some [] l b has = absurd (cc has)
-place_of-some (t ∷ ts) l b has = step (eqb t.variable l.variable) _ (value_of ts l) (place_of ts l.variable)
-    (length ts) (place_of-some ts l b) has
+pub trail_index-some : (xs : List Literal) (l : Literal) (b : Bool) → value_of xs l ≡ Some b →
+    trail_index xs l.variable < length xs
+trail_index-some [] l b has = absurd (cc has)
+trail_index-some (t ∷ ts) l b has =
+    step (eqb t.variable l.variable) _ (value_of ts l) (trail_index ts l.variable)
+    (length ts) (trail_index-some ts l b) has
   where
     step : (c s : Bool) (v : Option Bool) (p n : ℕ) → (v ≡ Some b → p < n) → cond c (Some s) v ≡ Some b →
         cond c 0 (suc p) < suc n
     step true s v p n rest has = omega arith
     step false s v p n rest has = omega (arith, rest has)
 
-pub place_of-none : (xs : List Literal) (l : Literal) → value_of xs l ≡ None →
-    place_of xs l.variable ≡ length xs
-place_of-none [] l none = refl
-place_of-none (t ∷ ts) l none = step (eqb t.variable l.variable) _ (value_of ts l) (place_of ts l.variable)
-    (length ts) (place_of-none ts l) none
+pub trail_index-none : (xs : List Literal) (l : Literal) → value_of xs l ≡ None →
+    trail_index xs l.variable ≡ length xs
+trail_index-none [] l none = refl
+trail_index-none (t ∷ ts) l none =
+    step (eqb t.variable l.variable) _ (value_of ts l) (trail_index ts l.variable)
+    (length ts) (trail_index-none ts l) none
   where
     step : (c s : Bool) (v : Option Bool) (p n : ℕ) → (v ≡ None → p ≡ n) → cond c (Some s) v ≡ None →
         cond c 0 (suc p) ≡ suc n
     step true s v p n rest none = absurd (cc none)
     step false s v p n rest none = ap suc (rest none)
 
-pub value_of-past : (xs : List Literal) (l : Literal) → length xs ≤ place_of xs l.variable →
+pub value_of-past : (xs : List Literal) (l : Literal) → length xs ≤ trail_index xs l.variable →
     value_of xs l ≡ None
 value_of-past [] l past = refl
-value_of-past (t ∷ ts) l past = step (eqb t.variable l.variable) _ (value_of ts l) (place_of ts l.variable)
+value_of-past (t ∷ ts) l past = step (eqb t.variable l.variable) _ (value_of ts l) (trail_index ts l.variable)
     (length ts) (value_of-past ts l) past
   where
     step : (c s : Bool) (v : Option Bool) (p n : ℕ) → (n ≤ p → v ≡ None) → suc n ≤ cond c 0 (suc p) →
@@ -106,11 +108,12 @@ value_of-past (t ∷ ts) l past = step (eqb t.variable l.variable) _ (value_of t
     step true s v p n rest h = absurd (omega arith)
     step false s v p n rest h = rest (omega arith)
 
-pub place_of-append : (xs ys : List Literal) (x : ℕ) → place_of xs x < length xs →
-    place_of (xs ++ ys) x ≡ place_of xs x
-place_of-append [] ys x within = absurd (omega arith)
-place_of-append (t ∷ ts) ys x within = step (eqb t.variable x) (place_of ts x) (place_of (ts ++ ys) x)
-    (length ts) (place_of-append ts ys x) within
+pub trail_index-append : (xs ys : List Literal) (x : ℕ) → trail_index xs x < length xs →
+    trail_index (xs ++ ys) x ≡ trail_index xs x
+trail_index-append [] ys x within = absurd (omega arith)
+trail_index-append (t ∷ ts) ys x within =
+    step (eqb t.variable x) (trail_index ts x) (trail_index (ts ++ ys) x)
+    (length ts) (trail_index-append ts ys x) within
   where
     step : (c : Bool) (p q n : ℕ) → (p < n → q ≡ p) → cond c 0 (suc p) < suc n →
         cond c 0 (suc q) ≡ cond c 0 (suc p)
@@ -121,51 +124,51 @@ shorter : (c : Bool) → c ≡ false → (p n : ℕ) → cond c 0 (suc p) < suc 
 shorter true e p n h = absurd (cc e)
 shorter false e p n h = omega arith
 
-pub lit_at-place : (xs : List Literal) (x : ℕ) → place_of xs x < length xs →
-    (lit_at xs (place_of xs x)).variable ≡ x
+pub lit_at-place : (xs : List Literal) (x : ℕ) → trail_index xs x < length xs →
+    (lit_at xs (trail_index xs x)).variable ≡ x
 lit_at-place [] x within = absurd (omega arith)
 lit_at-place (t ∷ ts) x within = ⊎_elim
-    (λ e. subst (λ (c : Bool). (lit_at (t ∷ ts) (cond c 0 (suc (place_of ts x)))).variable ≡ x)
+    (λ e. subst (λ (c : Bool). (lit_at (t ∷ ts) (cond c 0 (suc (trail_index ts x)))).variable ≡ x)
     (sym (eq-eqb t.variable x e)) e)
-    (λ ne. subst (λ (c : Bool). (lit_at (t ∷ ts) (cond c 0 (suc (place_of ts x)))).variable ≡ x)
+    (λ ne. subst (λ (c : Bool). (lit_at (t ∷ ts) (cond c 0 (suc (trail_index ts x)))).variable ≡ x)
     (sym (ne_eqb t.variable x ne))
-    (lit_at-place ts x (shorter (eqb t.variable x) (ne_eqb t.variable x ne) (place_of ts x)
+    (lit_at-place ts x (shorter (eqb t.variable x) (ne_eqb t.variable x ne) (trail_index ts x)
     (length ts) within)))
     (cases_eq t.variable x)
 
-pub value_of-place : (xs : List Literal) (l : Literal) → place_of xs l.variable < length xs →
-    value_of xs l ≡ Some (same_sign (lit_at xs (place_of xs l.variable)).negated l.negated)
+pub value_of-place : (xs : List Literal) (l : Literal) → trail_index xs l.variable < length xs →
+    value_of xs l ≡ Some (same_sign (lit_at xs (trail_index xs l.variable)).negated l.negated)
 value_of-place [] l within = absurd (omega arith)
 value_of-place (t ∷ ts) l within = ⊎_elim
     (λ e. subst (λ (c : Bool). cond c (Some (same_sign t.negated l.negated)) (value_of ts l) ≡ Some
-    (same_sign (lit_at (t ∷ ts) (cond c 0 (suc (place_of ts l.variable)))).negated l.negated))
+    (same_sign (lit_at (t ∷ ts) (cond c 0 (suc (trail_index ts l.variable)))).negated l.negated))
     (sym (eq-eqb t.variable l.variable e)) refl)
     (λ ne. subst (λ (c : Bool). cond c (Some (same_sign t.negated l.negated)) (value_of ts l) ≡ Some
-    (same_sign (lit_at (t ∷ ts) (cond c 0 (suc (place_of ts l.variable)))).negated l.negated))
+    (same_sign (lit_at (t ∷ ts) (cond c 0 (suc (trail_index ts l.variable)))).negated l.negated))
     (sym (ne_eqb t.variable l.variable ne))
     (value_of-place ts l (shorter (eqb t.variable l.variable) (ne_eqb t.variable l.variable ne)
-    (place_of ts l.variable) (length ts) within)))
+    (trail_index ts l.variable) (length ts) within)))
     (cases_eq t.variable l.variable)
 
 -- the front of a trail
-pub value_of-take : (n : ℕ) (xs : List Literal) (l : Literal) → place_of xs l.variable < n →
+pub value_of-take : (n : ℕ) (xs : List Literal) (l : Literal) → trail_index xs l.variable < n →
     value_of (take n xs) l ≡ value_of xs l
 value_of-take zero xs l below = absurd (omega arith)
 value_of-take (suc n) [] l below = refl
 value_of-take (suc n) (t ∷ ts) l below = step (eqb t.variable l.variable) _ (value_of ts l)
-    (value_of (take n ts) l) (place_of ts l.variable) (value_of-take n ts l) below
+    (value_of (take n ts) l) (trail_index ts l.variable) (value_of-take n ts l) below
   where
     step : (c s : Bool) (v w : Option Bool) (p : ℕ) → (p < n → w ≡ v) → cond c 0 (suc p) < suc n →
         cond c (Some s) w ≡ cond c (Some s) v
     step true s v w p rest h = refl
     step false s v w p rest h = rest (omega arith)
 
-pub value_of-take_none : (n : ℕ) (xs : List Literal) (l : Literal) → n ≤ place_of xs l.variable →
+pub value_of-take_none : (n : ℕ) (xs : List Literal) (l : Literal) → n ≤ trail_index xs l.variable →
     value_of (take n xs) l ≡ None
 value_of-take_none zero xs l above = refl
 value_of-take_none (suc n) [] l above = refl
 value_of-take_none (suc n) (t ∷ ts) l above =
-    step (eqb t.variable l.variable) _ (value_of (take n ts) l) (place_of ts l.variable)
+    step (eqb t.variable l.variable) _ (value_of (take n ts) l) (trail_index ts l.variable)
     (value_of-take_none n ts l) above
   where
     step : (c s : Bool) (w : Option Bool) (p : ℕ) → (n ≤ p → w ≡ None) → suc n ≤ cond c 0 (suc p) →
@@ -173,12 +176,13 @@ value_of-take_none (suc n) (t ∷ ts) l above =
     step true s w p rest h = absurd (omega arith)
     step false s w p rest h = rest (omega arith)
 
-pub place_of-take : (n : ℕ) (xs : List Literal) (x : ℕ) → place_of xs x < n → n ≤ length xs →
-    place_of (take n xs) x ≡ place_of xs x
-place_of-take zero xs x below le = absurd (omega arith)
-place_of-take (suc n) [] x below le = absurd (omega arith)
-place_of-take (suc n) (t ∷ ts) x below le = step (eqb t.variable x) (place_of ts x) (place_of (take n ts) x)
-    (λ h. place_of-take n ts x h (omega arith)) below
+pub trail_index-take : (n : ℕ) (xs : List Literal) (x : ℕ) → trail_index xs x < n → n ≤ length xs →
+    trail_index (take n xs) x ≡ trail_index xs x
+trail_index-take zero xs x below le = absurd (omega arith)
+trail_index-take (suc n) [] x below le = absurd (omega arith)
+trail_index-take (suc n) (t ∷ ts) x below le =
+    step (eqb t.variable x) (trail_index ts x) (trail_index (take n ts) x)
+    (λ h. trail_index-take n ts x h (omega arith)) below
   where
     step : (c : Bool) (p q : ℕ) → (p < n → q ≡ p) → cond c 0 (suc p) < suc n →
         cond c 0 (suc q) ≡ cond c 0 (suc p)

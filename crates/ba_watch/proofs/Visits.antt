@@ -15,7 +15,7 @@ use Rattle.ba_arena.specs.Clauses.{Clauses, Stored, IsLive, clause_at, lits_at, 
 use Rattle.ba_watch.specs.Chains.{occurrences}
 use Rattle.ba_watch.specs.Threads.{Clause, plain, plain_at, reordered, SamePlain, ReordersOne, index_at, watch_count, next_of, pending_of, AreApart}
 use Rattle.ba_watch.proofs.Walks.{walk-Leads}
-use Rattle.ba_watch.specs.Trails.{Assignments, same_sign, value_of, place_of, decided, level_at, IsTrail, Begins}
+use Rattle.ba_watch.specs.Trails.{Assignments, same_sign, value_of, trail_index, decided, level_at, IsTrail, Begins}
 use Rattle.ba_watch.specs.Propagation.{plain_lits, SameClause, is_false, IsReason, HasReasons, IsGuarded, AreGuarded, AreUnits, IsVisiting, AreVisited, VisitsSome, Visits, IsUnderway}
 use Rattle.ba_watch.proofs.Values.{value_of-at, value_of-more, value_of-push_here}
 use Rattle.ba_watch.proofs.Levels.{decided-append}
@@ -81,7 +81,7 @@ AreUnits-kept a a' T R waiting live lits lits_back u = record {
   true_ = λ k l short none. let e = lits k short in ap (λ (ls : List Literal). value_of T (lit_at ls 0)) e
       ∙ u.true_ k (sym (live k) ∙ l) (omega (arith, short, ap length e)) none;
   level = λ k l short none. let e = lits k short in
-      ap (λ (ls : List Literal). level_at R (place_of T (lit_at ls 0).variable)) e
+      ap (λ (ls : List Literal). level_at R (trail_index T (lit_at ls 0).variable)) e
       ∙ u.level k (sym (live k) ∙ l) (omega (arith, short, ap length e)) none;
   live = λ k some. live k ∙ u.live k some;
   short = λ k some. omega (arith, ap length (lits_back k (u.short k some)), u.short k some);
@@ -201,7 +201,7 @@ module _ (a a' : Clauses) (t : Assignments) (r place k : ℕ) (moves : ReordersO
       (lit_at (swap ls place k) place) =
       λ is_false before. absurd (clash (guard_of place other place_le other_le ne
       (ap (value_of t.lits) (sym old) ∙ is_false) (subst
-      (λ (l : Literal). place_of t.lits l.variable < h) old before)) place_false) in
+      (λ (l : Literal). trail_index t.lits l.variable < h) old before)) place_false) in
       record {
         first = λ j long. move_each (λ ls'. 2 ≤ length ls' →
             IsGuarded t.lits t.reasons h (lit_at ls' 0) (lit_at ls' 1)) j (λ other_clause. g.first j)
@@ -215,7 +215,7 @@ module _ (a a' : Clauses) (t : Assignments) (r place k : ℕ) (moves : ReordersO
       clash p q = cc (p, q)
 
       guard_of : (p o : ℕ) → p ≤ 1 → o ≤ 1 → o ≢ p → value_of t.lits (lit_at (lits_at a r) o) ≡ Some false →
-          place_of t.lits (lit_at (lits_at a r) o).variable < h →
+          trail_index t.lits (lit_at (lits_at a r) o).variable < h →
           value_of t.lits (lit_at (lits_at a r) p) ≡ Some true
       guard_of zero zero le le' ne' f b = absurd (ne' refl)
       guard_of zero (suc zero) le le' ne' f b = (g.second r (omega arith) f b).0

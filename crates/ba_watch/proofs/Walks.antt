@@ -91,7 +91,7 @@ positive q (y ∷ ys) has =
     positive_step (eqb q y) (eqb y q) (list_any (eqb q) ys) (occurrences q ys) (eqb-comm q y)
     (positive q ys) has
 
--- what stands at a place occurs
+-- what is at a place occurs
 pub at_occurs : (xs : List ℕ) (k : ℕ) → k < length xs → 0 < occurrences (get_or xs k 0) xs
 at_occurs [] k within = absurd (omega arith)
 at_occurs (x ∷ xs) zero within = here x (occurrences x xs)

@@ -1,4 +1,4 @@
--- Clauses that are deleted, and where the others are then.
+-- Deletion of clauses, which moves the other clauses.
 
 use Rattle.std.specs.Prelude.{◌≡◌, ℕ, ◌<◌, ◌≤◌, ◌⊎◌, Bool, nat_eq, not, Option, None, Some, IsSome, List, length, get_or, map, filter}
 use Rattle.std.specs.List.{Contains, list_any}
@@ -17,7 +17,7 @@ pub record Source (numbers : List ℕ) (moved : ℕ →
   pub stays : Contains numbers c.number → ⊥
   pub to : moved from ≡ reference
 
--- the clauses of some numbers are gone, every other one has moved, and there are no more
+-- the clauses of some numbers are gone, every other one has moved, and there are no more clauses
 pub record KeepsOthers (numbers : List ℕ) (moved : ℕ → ℕ) (old new : List (Option Clause)) : Type 0 where
   pub there : (reference : ℕ) (c : Clause) → clause_in old reference ≡ Some c →
       (Contains numbers c.number → ⊥) →
@@ -48,6 +48,7 @@ abbrev pub number_of : Option Stored → Option ℕ
 number_of None = None
 number_of (Some s) = Some s.number
 
+-- the number of a live clause
 abbrev pub numbered : Clauses → ℕ → Option ℕ
 numbered clauses clause = number_of (clause_at clauses clause)
 
@@ -63,7 +64,7 @@ abbrev pub AreAlone : Clauses → Type 0
 AreAlone clauses = (a b number : ℕ) → numbered clauses a ≡ Some number → numbered clauses b ≡ Some number →
     a ≡ b
 
--- one of so many numbers
+-- the number is one of the first `n` in a list
 abbrev pub IsNamed : List ℕ → ℕ → ℕ → Type 0
 IsNamed numbers count number = (k : ℕ) × (k < count) × (get_or numbers k 0 ≡ number)
 
@@ -83,7 +84,7 @@ pub record IsWithout (named : ℕ → Type 0) (old new : Clauses) : Type 0 where
   pub stays : (r number : ℕ) → numbered old r ≡ Some number → (named number → ⊥) →
       clause_at new r ≡ clause_at old r
 
--- the same of all that names clauses
+-- the same for all that names clauses
 pub record DeletesAll (old new : Clauses) (t u : Assignments) (waiting left : List ℕ)
     (references : List (Option ℕ)) (numbers : List ℕ) : Type 0 where
   pub moved : ℕ → ℕ

@@ -4,7 +4,7 @@ use Rattle.std.specs.Prelude.{◌≡◌, ℕ, ◌<◌, Bool, true, false, Option
 use Prim.Native.Nat.{suc, zero}
 use native.Mathlib.Nat.{not-suc-le-zero, le_of_suc-le-suc}
 
--- the value that a byte stands for: 0 is false, 1 is true, and any other none
+-- the value of a byte: false for 0, true for 1, none for any other
 abbrev pub lifted : ℕ → Option Bool
 lifted zero = Some false
 lifted (suc zero) = Some true

@@ -1,4 +1,4 @@
--- Unit propagation: what a watch holds, and when its propagation is complete.
+-- Unit propagation: the state of a watch, and completeness of propagation.
 
 use Rattle.std.specs.Prelude.{◌≡◌, ◌≢◌, ℕ, ◌+◌, ◌*◌, ◌<◌, ◌≤◌, Bool, true, false, not, ◌&&◌, Option, None, Some, IsSome, List, [], ◌∷◌, length, get_or, take, drop, if◌then◌else◌}
 use Prim.Native.Nat.{suc}
@@ -8,9 +8,9 @@ use Rattle.ba_lits.specs.Hints.{has_literal}
 use Rattle.ba_arena.specs.Clauses.{Clauses, IsLive, lits_at}
 use Rattle.ba_watch.specs.Chains.{occurrences}
 use Rattle.ba_watch.specs.Threads.{Clause, plain_at, index_at, AreApart}
-use Rattle.ba_watch.specs.Trails.{Assignments, value_of, place_of, decided, level_at, IsTrail, Begins}
+use Rattle.ba_watch.specs.Trails.{Assignments, value_of, trail_index, decided, level_at, IsTrail, Begins}
 
--- what contracts see of a watch: the clauses by reference, and the trail with its reasons
+-- what a contract sees of a watch: the clauses by reference, and the trail with its reasons
 pub record State : Type 0 where
   pub variables : ℕ
   pub clauses : List (Option Clause)
@@ -23,21 +23,23 @@ abbrev pub falsified : Option Bool → Bool
 falsified None = false
 falsified (Some b) = not b
 
--- a clause is false where all its literals are
+-- a clause is false if all its literals are
 abbrev pub is_false : (Literal → Option Bool) → List Literal → Bool
 is_false value [] = true
 is_false value (l ∷ ls) = falsified (value l) && is_false value ls
 
--- a clause is unit where one of its literals has no value and all others are false
+-- a clause is unit if one of its literals has no value and all others are false
 abbrev pub unit_step : Option Bool → Bool → Bool → Bool
 unit_step None rest_false rest_unit = rest_false
 unit_step (Some true) rest_false rest_unit = false
 unit_step (Some false) rest_false rest_unit = rest_unit
 
+-- all literals are false but one, which has no value
 abbrev pub is_unit : (Literal → Option Bool) → List Literal → Bool
 is_unit value [] = false
 is_unit value (l ∷ ls) = unit_step (value l) (is_false value ls) (is_unit value ls)
 
+-- the literals of a clause, none without one
 abbrev pub plain_lits : Option Clause → List Literal
 plain_lits None = []
 plain_lits (Some c) = c.lits
@@ -46,6 +48,7 @@ plain_lits (Some c) = c.lits
 abbrev pub clause_in : List (Option Clause) → ℕ → Option Clause
 clause_in clauses clause = get_or clauses clause None
 
+-- the literals of the clause of a reference, none without one
 abbrev pub lits_in : List (Option Clause) → ℕ → List Literal
 lits_in clauses clause = plain_lits (clause_in clauses clause)
 
@@ -68,13 +71,13 @@ HasReasons lits trail reasons =
     (p clause : ℕ) → p < length trail → get_or reasons p None ≡ Some clause →
     IsReason (lits clause) (take p trail) (lit_at trail p)
 
--- where the first literal became false before a place, the second is true, and became so at the level of the
--- first or a lower one
+-- if the first literal became false before a trail index, the second is true, at the level of the first or a
+-- lower one
 abbrev pub IsGuarded : List Literal → List (Option ℕ) → ℕ → Literal → Literal → Type 0
 IsGuarded trail reasons head a b =
-    value_of trail a ≡ Some false → place_of trail a.variable < head →
-    (value_of trail b ≡ Some true) × (level_at reasons (place_of trail b.variable) ≤ level_at reasons
-    (place_of trail a.variable))
+    value_of trail a ≡ Some false → trail_index trail a.variable < head →
+    (value_of trail b ≡ Some true) × (level_at reasons (trail_index trail b.variable) ≤ level_at reasons
+    (trail_index trail a.variable))
 
 -- the same of the watched literals of each clause, both ways
 pub record AreGuarded (lits : ℕ → List Literal) (trail : List Literal) (reasons : List (Option ℕ))
@@ -84,7 +87,7 @@ pub record AreGuarded (lits : ℕ → List Literal) (trail : List Literal) (reas
   pub second : (clause : ℕ) → 2 ≤ length (lits clause) →
       IsGuarded trail reasons head (lit_at (lits clause) 1) (lit_at (lits clause) 0)
 
--- what holds of the trail and of the clauses' literals where propagation has come to a place
+-- what holds of the trail and the clauses' literals when propagation has come to an index of the trail
 pub record AreFacts (lits : ℕ → List Literal) (variables : ℕ) (trail : List Literal)
     (reasons : List (Option ℕ)) (head : ℕ) : Type 0 where
   pub trail_is : IsTrail variables trail reasons
@@ -94,7 +97,7 @@ pub record AreFacts (lits : ℕ → List Literal) (variables : ℕ) (trail : Lis
   pub reasons_are : HasReasons lits trail reasons
   pub in_range : (clause k : ℕ) → k < length (lits clause) → (lit_at (lits clause) k).variable ≤ variables
 
--- each live clause of fewer than two literals has one that is true at level 0, or is still to be looked at
+-- each live clause of fewer than two literals has a literal that is true at level 0, or waits
 pub record AreUnits (clauses : Clauses) (trail : List Literal) (reasons : List (Option ℕ))
     (waiting : List ℕ) : Type 0 where
   pub one : (clause : ℕ) → IsLive clauses clause → length (lits_at clauses clause) < 2 →
@@ -103,7 +106,7 @@ pub record AreUnits (clauses : Clauses) (trail : List Literal) (reasons : List (
       occurrences clause waiting ≡ 0 → value_of trail (lit_at (lits_at clauses clause) 0) ≡ Some true
   pub level : (clause : ℕ) → IsLive clauses clause → length (lits_at clauses clause) < 2 →
       occurrences clause waiting ≡ 0 → level_at reasons
-      (place_of trail (lit_at (lits_at clauses clause) 0).variable) ≡ 0
+      (trail_index trail (lit_at (lits_at clauses clause) 0).variable) ≡ 0
   pub live : (clause : ℕ) → 0 < occurrences clause waiting → IsLive clauses clause
   pub short : (clause : ℕ) → 0 < occurrences clause waiting → length (lits_at clauses clause) < 2
 
@@ -157,7 +160,8 @@ pub record IsAsserting (s : State) (lits : List Literal) : Type 0 where
   pub recent : ℕ
   pub recent_in : recent < length lits
   pub recent_false : value_of s.trail (lit_at lits recent) ≡ Some false
-  pub recent_level : level_at s.reasons (place_of s.trail (lit_at lits recent).variable) ≡ decided s.reasons
+  pub recent_level : level_at s.reasons (trail_index s.trail (lit_at lits recent).variable)
+      ≡ decided s.reasons
 
 -- the list of the literal that became false at the head of propagation is being visited
 pub record IsVisiting (lits : ℕ → List Literal) (variables : ℕ) (trail : List Literal)
@@ -166,7 +170,7 @@ pub record IsVisiting (lits : ℕ → List Literal) (variables : ℕ) (trail : L
   pub inside : head < length trail
   pub visited_is : visited ≡ index_of (negate (lit_at trail head))
 
--- a clause that watches the literal and isn't still to be looked at has its other watched literal true
+-- a clause that watches the literal and was visited has its other watched literal true
 pub record AreVisited (lits : ℕ → List Literal) (trail : List Literal) (visited : ℕ) (todo : List ℕ) : Type
     0 where
   pub first : (clause : ℕ) → 2 ≤ length (lits clause) → occurrences clause todo ≡ 0 →
@@ -189,7 +193,7 @@ pub record VisitsSome (old new : Clauses) (t u : Assignments) (visited : ℕ) : 
   pub visiting : (head : ℕ) → IsVisiting (lits_at old) t.variables t.lits t.reasons head visited →
       IsVisiting (lits_at new) u.variables u.lits u.reasons head visited
 
--- a clause of the list was looked at: it is false, or one clause less is to be looked at
+-- a clause of the list was visited: it is false, or one clause fewer is left
 pub record Visits (old new : Clauses) (t u : Assignments) (visited : ℕ) (todo rest : List ℕ) (clause : ℕ)
     (conflict : Bool) : Type 0 where
   pub steps : VisitsSome old new t u visited
@@ -215,7 +219,7 @@ abbrev pub InRange : Clauses → ℕ → Type 0
 InRange clauses variables = (r k : ℕ) → k < length (lits_at clauses r) →
     (lit_at (lits_at clauses r) k).variable ≤ variables
 
--- literals of clauses of one literal were made true: whatever held still holds
+-- literals of clauses of one literal became true; whatever held still holds
 pub record AssignsUnits (clauses : Clauses) (t u : Assignments) : Type 0 where
   pub variables : u.variables ≡ t.variables
   pub trail : Begins t.lits u.lits
@@ -243,12 +247,14 @@ pub record Propagates (old new : Clauses) (t u : Assignments) : Type 0 where
   pub units : (waiting : List ℕ) → AreUnits old t.lits t.reasons waiting →
       AreUnits new u.lits u.reasons waiting
 
--- how late a literal became false: its place on the trail, or the trail's length where it isn't false
+-- the rank of a literal: the index on the trail at which it became false, or the trail's length if it isn't
+-- false
 abbrev pub rank_of : List Literal → Literal → ℕ
-rank_of trail l = if falsified (value_of trail l) then place_of trail l.variable else length trail
+rank_of trail l = if falsified (value_of trail l) then trail_index trail l.variable else length trail
 
--- what a watch makes known of itself: every variable on the trail is assigned once; reasons are reasons; where it
--- is settled propagation is complete, and before each decision it was; no literal stands twice in a clause
+-- What a watch tells of itself. Every variable on the trail is assigned once, and reasons are reasons. If it
+-- is settled propagation is complete, and it was so before each decision. No literal occurs twice in a
+-- clause.
 pub record KeepsFacts (s : State) : Type 0 where
   pub trail : IsTrail s.variables s.trail s.reasons
   pub reasons : HasReasons (lits_in s.clauses) s.trail s.reasons

@@ -6,11 +6,11 @@ use Rattle.ba_lits.specs.Literals.{Literal, index_of, lit_at}
 use Rattle.ba_arena.specs.Clauses.{Clauses, Stored, clause_at, lits_at}
 use Rattle.ba_watch.specs.Chains.{walk, end_of_walk, occurrences}
 
--- the index of the literal at a place of a clause
+-- the index of the literal at an index of a clause
 abbrev pub index_at : List Literal → ℕ → ℕ
 index_at lits k = index_of (lit_at lits k)
 
--- the link of a clause that belongs to the literal of an index, where the clause watches it
+-- the link of a clause that belongs to the literal of an index, if the clause watches it
 abbrev pub next_in : ℕ → Option Stored → Option ℕ
 next_in index None = None
 next_in index (Some s) =
@@ -25,7 +25,7 @@ next_of clauses index clause = next_in index (clause_at clauses clause)
 abbrev pub list_of : Clauses → List (Option ℕ) → ℕ → List ℕ
 list_of clauses heads index = walk (length clauses) (next_of clauses index) (get_or heads index None)
 
--- the clauses in the list that is being visited and that weren't looked at yet
+-- the clauses of the visited list that weren't visited yet
 abbrev pub pending_of : Clauses → ℕ → Option ℕ → List ℕ
 pending_of clauses visited pending = walk (length clauses) (next_of clauses visited) pending
 
@@ -33,16 +33,17 @@ pending_of clauses visited pending = walk (length clauses) (next_of clauses visi
 abbrev pub watches : List Literal → ℕ → Bool
 watches lits index = leb 2 (length lits) && (eqb (index_at lits 0) index || eqb (index_at lits 1) index)
 
+-- 1 if the clause watches the literal of this index, else 0
 abbrev pub watch_count : Clauses → ℕ → ℕ → ℕ
 watch_count clauses index clause = if watches (lits_at clauses clause) index then 1 else 0
 
--- how often a clause stands in the list of the literal of an index, with the list that is being visited
+-- how often a clause is in the list of the literal of an index, with the visited list
 abbrev pub listed : Clauses → List (Option ℕ) → ℕ → Option ℕ → ℕ → ℕ → ℕ
 listed clauses heads visited pending index clause =
     occurrences clause (list_of clauses heads index)
     + (if eqb index visited then occurrences clause (pending_of clauses visited pending) else 0)
 
--- no literal stands twice in a clause
+-- no literal occurs twice in a clause
 abbrev pub AreApart : List Literal → Type 0
 AreApart lits = (j k : ℕ) → j < length lits → k < length lits → j ≢ k → index_at lits j ≢ index_at lits k
 
@@ -61,6 +62,7 @@ pub record Clause : Type 0 where
   pub lits : List Literal
   pub number : ℕ
 
+-- a clause without its links
 abbrev pub plain : Option Stored → Option Clause
 plain None = None
 plain (Some s) = Some (record { lits = s.lits; number = s.number })
@@ -78,13 +80,13 @@ plain_at clauses clause = plain (clause_at clauses clause)
 abbrev pub SamePlain : Clauses → Clauses → Type 0
 SamePlain old new = (k : ℕ) → plain_at new k ≡ plain_at old k
 
--- the same clauses but for one, in which two literals were exchanged
+-- the same clauses except for one, in which two literals were exchanged
 abbrev pub ReordersOne : ℕ → ℕ → ℕ → Clauses → Clauses → Type 0
 ReordersOne clause a b old new =
     (plain_at new clause ≡ reordered a b (plain_at old clause))
     × ((k : ℕ) → k ≢ clause → plain_at new k ≡ plain_at old k)
 
--- one clause more
+-- one clause was added
 pub record AddsPlain (old new : Clauses) (clause : ℕ) (lits : List Literal) (number : ℕ) : Type 0 where
   pub fresh : plain_at old clause ≡ None
   pub there : plain_at new clause ≡ Some (record { lits = lits; number = number })

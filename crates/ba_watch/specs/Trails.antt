@@ -1,4 +1,4 @@
--- The trail: the literals that are true, in the order in which they became so, each with its reason.
+-- The trail: the true literals in the order of their assignment, each with its reason.
 
 use Rattle.std.specs.Prelude.{◌≡◌, ℕ, ◌+◌, ◌-◌, ◌<◌, ◌≤◌, Bool, true, false, not, Option, None, Some, is_some, List, [], ◌∷◌, length, get_or, take, eqb, ltb, if◌then◌else◌}
 use Prim.Native.Nat.{suc, zero}
@@ -11,33 +11,34 @@ abbrev pub same_sign : Bool → Bool → Bool
 same_sign true b = b
 same_sign false b = not b
 
--- the value of a literal under a trail; None where its variable has none
+-- the value of a literal under a trail; None if its variable has none
 abbrev pub value_of : List Literal → Literal → Option Bool
 value_of [] l = None
 value_of (t ∷ ts) l = if eqb t.variable l.variable then Some (same_sign t.negated l.negated) else value_of
     ts l
 
--- the place on the trail where a variable got its value; the trail's length where it has none
-abbrev pub place_of : List Literal → ℕ → ℕ
-place_of [] variable = 0
-place_of (t ∷ ts) variable = if eqb t.variable variable then 0 else suc (place_of ts variable)
+-- the trail index of a variable's assignment; the trail's length if it has no value
+abbrev pub trail_index : List Literal → ℕ → ℕ
+trail_index [] variable = 0
+trail_index (t ∷ ts) variable = if eqb t.variable variable then 0 else suc (trail_index ts variable)
 
--- the same where the variable has a value
-abbrev pub place_if : List Literal → ℕ → Option ℕ
-place_if lits variable = if ltb (place_of lits variable) (length lits) then Some (place_of lits variable)
+-- the same if the variable has a value
+abbrev pub trail_index_if : List Literal → ℕ → Option ℕ
+trail_index_if lits variable =
+    if ltb (trail_index lits variable) (length lits) then Some (trail_index lits variable)
     else None
 
--- a literal without a reason was decided, and begins a level: so many levels are begun
+-- how many literals were decided: one without a reason was decided, and begins a level
 abbrev pub decided : List (Option ℕ) → ℕ
 decided [] = 0
 decided (None ∷ rs) = 1 + decided rs
 decided (Some r ∷ rs) = decided rs
 
--- the level of a place of the trail
+-- the level of a trail index
 abbrev pub level_at : List (Option ℕ) → ℕ → ℕ
 level_at reasons place = decided (take (place + 1) reasons)
 
--- how many places have at most a level
+-- how many trail indices have at most a level
 abbrev pub kept : ℕ → List (Option ℕ) → ℕ
 kept level [] = 0
 kept zero (None ∷ rs) = 0
@@ -47,14 +48,14 @@ kept level (Some r ∷ rs) = suc (kept level rs)
 -- the level at which a variable got its value
 abbrev pub level_of : List Literal → List (Option ℕ) → ℕ → Option ℕ
 level_of lits reasons variable =
-    if ltb (place_of lits variable) (length lits) then Some (level_at reasons (place_of lits variable))
+    if ltb (trail_index lits variable) (length lits) then Some (level_at reasons (trail_index lits variable))
     else None
 
 -- the clause because of which a variable got its value
 abbrev pub reason_of : List Literal → List (Option ℕ) → ℕ → Option ℕ
-reason_of lits reasons variable = get_or reasons (place_of lits variable) None
+reason_of lits reasons variable = get_or reasons (trail_index lits variable) None
 
--- a trail over so many variables
+-- a trail over this many variables
 pub record Assignments : Type 0 where
   pub variables : ℕ
   pub lits : List Literal
@@ -73,7 +74,8 @@ abbrev pub with_sign : Bool → Option Bool → Option Bool
 with_sign negated None = None
 with_sign negated (Some b) = Some (signed negated b)
 
--- the vectors of the code hold the trail: values and places by variable, from 1 on; reasons and levels by place
+-- the vectors of the code hold the trail: values and trail indices by variable, from 1 on; reasons and levels
+-- by trail index
 pub record Holds (variables : ℕ) (lits : List Literal) (reasons : List (Option ℕ)) (levels : List ℕ)
     (assigned level : ℕ) (values : List (Option Bool)) (places : List ℕ) : Type 0 where
   pub trail : IsTrail variables (take assigned lits) (take assigned reasons)

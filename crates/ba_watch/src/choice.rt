@@ -7,14 +7,15 @@ ghost use Rattle.ba_watch.specs.Propagation.{rank_of, IsOneOf};
 use crate::trail::Trail;
 use ba_lits::Lit;
 
-/// How late a literal became false: its place on the trail, or the trail's length where it isn't false.
+/// The rank of a literal: the index on the trail at which it became false, or the trail's length if it isn't
+/// false.
 pub fn rank(trail: &Trail, lit: Lit) -> usize
     requires { lit.variable ≤ trail.now.variables }
     ensures { result ≡ rank_of trail.now.lits lit }
 {
     let value = trail.value(lit);
     match value {
-        Some(false) => match trail.place(lit.variable()) {
+        Some(false) => match trail.trail_index(lit.variable()) {
             Some(place) => place,
             None => trail.len(),
         },
@@ -22,7 +23,7 @@ pub fn rank(trail: &Trail, lit: Lit) -> usize
     }
 }
 
-/// The place of a literal of the greatest rank, with one place left out.
+/// The index of a literal of the greatest rank, other than `skip`.
 pub fn latest(trail: &Trail, lits: &[Lit], skip: usize) -> usize
     requires two { 2 ≤ length lits.now }
     requires range { (k : ℕ) → k < length lits.now
@@ -42,7 +43,7 @@ pub fn latest(trail: &Trail, lits: &[Lit], skip: usize) -> usize
     best
 }
 
-/// The one of two places whose literal has the greater rank.
+/// The one of two indices whose literal has the greater rank.
 fn later(trail: &Trail, lits: &[Lit], a: usize, b: usize) -> usize
     requires a_within { a < length lits.now }
     requires b_within { b < length lits.now }

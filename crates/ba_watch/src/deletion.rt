@@ -1,4 +1,5 @@
-//! Deletion of clauses: they are marked dead, the others are moved down in place, and the lists are threaded anew.
+//! Deletion of clauses: they are marked dead, the others are moved down in place, and the lists are threaded
+//! anew.
 
 ghost use Rattle.std.specs.Prelude.{◌≡◌, ◌≢◌, ℕ, ◌+◌, ◌*◌, ◌<◌, ◌≤◌, None, Some, OnOk, List, length, take, map, get_or};
 ghost use Rattle.std.specs.List.{Contains};
@@ -15,7 +16,7 @@ use std::alloc::AllocError;
 
 /// Makes room for the reference of the clause of a number.
 ///
-/// The one error is want of memory or of room, which is for numbers below 2^32.
+/// The only error is out of memory, also if the number is 2^32 or more.
 pub fn make_room(references: &mut Vec<Option<ClauseRef>>, number: u64) -> Result<(), AllocError>
     ensures same { (k : ℕ) → get_or references.new.items k None
         ≡ get_or references.old.items k None }
@@ -27,7 +28,7 @@ pub fn make_room(references: &mut Vec<Option<ClauseRef>>, number: u64) -> Result
     fill_up(references, number as usize + 1, None)
 }
 
-/// Takes the clauses of the numbers off a list of live clauses.
+/// Removes the clauses of the numbers from a list of live clauses.
 fn keep_unnamed(arena: &Arena, list: &mut Vec<ClauseRef>, numbers: &[u64])
     requires live { (k : ℕ) → k < length list.old.items
         → IsLive arena.now (get_or list.old.items k 0) }
@@ -123,8 +124,8 @@ fn link_clause(arena: &mut Arena, heads: &mut Vec<Link>, clause: ClauseRef)
     heads[two] = Link::some(clause);
 }
 
-/// Deletes the clauses of the numbers, which no longer wait: trail, waiting clauses and table follow the others to their
-/// new places.
+/// Deletes the clauses of the numbers, none of which waits any more. Trail, waiting clauses and table follow
+/// the others to their new indices.
 pub fn delete_all(
     lists: &mut Lists,
     trail: &mut Trail,

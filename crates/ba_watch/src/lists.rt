@@ -11,8 +11,8 @@ use ba_arena::{Arena, ClauseRef, Link};
 use ba_lits::Lit;
 use std::alloc::{AllocError, Global};
 
-/// The clauses, each in the lists of its first two literals. While a list is visited, its clauses are taken
-/// off it one by one, and each goes back or into the list of another literal.
+/// The clauses, each in the lists of its first two literals. A visited list gives its clauses one by one, and
+/// each goes back or into the list of another literal.
 #[derive(Drop)]
 pub struct Lists {
     pub arena: Arena,
@@ -36,7 +36,7 @@ impl Lists {
         }
     }
 
-    /// No literal stands twice in a clause. It does nothing.
+    /// Law: no literal occurs twice in a clause. It does nothing.
     pub fn keep_apart(&self)
         ensures { (clause : ℕ) → AreApart (lits_at self.now.arena clause) }
     {
@@ -73,8 +73,8 @@ impl Lists {
         self.visited = index;
     }
 
-    /// The place, 0 or 1, at which the next clause of the visited list has the visited literal.
-    pub fn watched_place(&self, clause: ClauseRef) -> usize
+    /// The index, 0 or 1, at which the next clause of the visited list has the visited literal.
+    pub fn watched_index(&self, clause: ClauseRef) -> usize
         requires { self.now.pending ≡ Some clause }
         ensures place { result ≤ 1 }
         ensures watched { index_at (lits_at self.now.arena clause) result ≡ self.now.visited }
@@ -145,7 +145,7 @@ impl Lists {
         self.arena.add(lits, number)
     }
 
-    /// Adds a clause that watches the literals at two of its places.
+    /// Adds a clause that watches the literals at two of its indices.
     pub fn add_long(
         &mut self,
         lits: &[Lit],

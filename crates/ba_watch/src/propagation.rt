@@ -1,4 +1,4 @@
-//! Propagation of literals: what one that became false does to the clauses that watch it.
+//! Propagation of literals: visits of the clauses that watch a literal that became false.
 
 ghost use Rattle.std.specs.Prelude.{◌≡◌, ◌≢◌, ℕ, ◌+◌, ◌*◌, ◌-◌, ◌<◌, ◌≤◌, ◌∷◌, [], None, Some, Option, false, true, IsTrue, ◌↔◌, IfSome, IfNone, List, length};
 ghost use Rattle.ba_lits.specs.Literals.{lit_at};
@@ -12,7 +12,7 @@ use crate::lists::Lists;
 use crate::trail::Trail;
 use ba_arena::{Arena, ClauseRef};
 
-/// The first place from 2 on whose literal isn't false.
+/// The first index from 2 on whose literal isn't false.
 fn find_watch(arena: &Arena, trail: &Trail, clause: ClauseRef) -> Option<usize>
     requires live { IsLive arena.now clause }
     requires range { InRange arena.now trail.now.variables }
@@ -29,8 +29,8 @@ fn find_watch(arena: &Arena, trail: &Trail, clause: ClauseRef) -> Option<usize>
     None
 }
 
-/// Visits the next clause of the visited list, and answers whether it is false. Its other watched literal is
-/// true, or it watches another literal from now on, or its other literal becomes true because of it.
+/// Visits the next clause of the visited list, and answers whether it is false. Else its other watched
+/// literal is true or becomes true, or the clause watches another literal from now on.
 fn visit_watch(lists: &mut Lists, trail: &mut Trail, clause: ClauseRef) -> bool
     requires next { lists.old.pending ≡ Some clause }
     requires range { InRange lists.old.arena trail.old.variables }
@@ -44,7 +44,7 @@ fn visit_watch(lists: &mut Lists, trail: &mut Trail, clause: ClauseRef) -> bool
         → Visits lists.old.arena lists.new.arena trail.old trail.new lists.old.visited (clause
         ∷ rest) rest clause result }
 {
-    let place = lists.watched_place(clause);
+    let place = lists.watched_index(clause);
     let other = lists.arena.lit(clause, 1 - place);
     if trail.is_true(other) {
         lists.keep(clause, place);
@@ -62,7 +62,8 @@ fn visit_watch(lists: &mut Lists, trail: &mut Trail, clause: ClauseRef) -> bool
     false
 }
 
-/// Takes the next clause off the visited list: visits it, or only puts it back once a clause is false.
+/// Takes the next clause off the visited list. It visits the clause, or only puts it back once a clause is
+/// false.
 fn visit_next(
     lists: &mut Lists,
     trail: &mut Trail,
@@ -82,7 +83,7 @@ fn visit_next(
         → IsUnderway start lists.new.arena t trail.new lists.old.visited rest result }
 {
     if conflict.is_some() {
-        let place = lists.watched_place(clause);
+        let place = lists.watched_index(clause);
         lists.keep(clause, place);
         return conflict;
     }
@@ -93,7 +94,7 @@ fn visit_next(
     }
 }
 
-/// Visits the clauses of the list that was taken, and gives a clause that is false if there is one.
+/// Visits the clauses of the list that was taken, and gives a false clause if there is one.
 pub fn propagate_literal(lists: &mut Lists, trail: &mut Trail) -> Option<ClauseRef>
     requires taken { (clause : ℕ) → occurrences clause
         (pending_of lists.old.arena lists.old.visited lists.old.pending)
@@ -113,8 +114,9 @@ pub fn propagate_literal(lists: &mut Lists, trail: &mut Trail) -> Option<ClauseR
     conflict
 }
 
-/// Visits the lists of the literals that became false, from a place of the trail on, until a clause is false:
-/// it is given, and the place is that of the literal whose list was visited last. Otherwise the place is the trail's end.
+/// Visits the lists of the literals that became false, from an index of the trail on, until a clause is
+/// false. It gives that clause, and the index of the literal whose list was visited last. If no clause is
+/// false, the index is the trail's end.
 pub fn propagate_all(lists: &mut Lists, trail: &mut Trail, head: &mut usize) -> Option<ClauseRef>
     requires facts { AreFacts (lits_at lists.old.arena) trail.old.variables trail.old.lits
         trail.old.reasons head.old }

@@ -4,7 +4,7 @@ ghost use Rattle.std.specs.Prelude.{◌≡◌, ◌≢◌, ℕ, ◌+◌, ◌-◌,
 ghost use Rattle.ba_lits.specs.Literals.{lit_at};
 ghost use Rattle.ba_arena.specs.Clauses.{IsLive, AreReferences};
 ghost use Rattle.ba_arena.specs.Compaction.{moved, led, AreLiveReferences, Compacts};
-ghost use Rattle.ba_watch.specs.Trails.{value_of, place_if, decided, level_of, reason_of, kept, IsTrail, Begins};
+ghost use Rattle.ba_watch.specs.Trails.{value_of, trail_index_if, decided, level_of, reason_of, kept, IsTrail, Begins};
 
 use crate::lifted::LiftedBool;
 use ba_arena::{Arena, ClauseRef};
@@ -90,7 +90,7 @@ impl Trail {
         &self.reasons[..self.assigned]
     }
 
-    /// The literal at a place.
+    /// The literal at an index of the trail.
     pub fn lit(&self, place: usize) -> Lit
         requires { place < length self.now.lits }
         ensures { result ≡ lit_at self.now.lits place }
@@ -133,11 +133,11 @@ impl Trail {
         self.values[lit.variable() as usize - 1].is(lit.is_negated())
     }
 
-    /// The place on the trail of a variable that has a value.
-    pub fn place(&self, variable: u64) -> Option<usize>
+    /// The trail index of a variable's literal, if the variable has a value.
+    pub fn trail_index(&self, variable: u64) -> Option<usize>
         requires counted { 1 ≤ variable }
         requires within { variable ≤ self.now.variables }
-        ensures { result ≡ place_if self.now.lits variable }
+        ensures { result ≡ trail_index_if self.now.lits variable }
     {
         let index = variable as usize - 1;
         if self.values[index].is_some() {
@@ -147,25 +147,25 @@ impl Trail {
         }
     }
 
-    /// The level at which a variable got its value.
+    /// The level at which a variable was assigned.
     pub fn level_of(&self, variable: u64) -> Option<usize>
         requires counted { 1 ≤ variable }
         requires within { variable ≤ self.now.variables }
         ensures { result ≡ level_of self.now.lits self.now.reasons variable }
     {
-        match self.place(variable) {
+        match self.trail_index(variable) {
             None => None,
             Some(place) => Some(self.levels[place] as usize),
         }
     }
 
-    /// The clause because of which a variable got its value.
+    /// The reason of a variable: the clause that gave it its value.
     pub fn reason(&self, variable: u64) -> Option<ClauseRef>
         requires counted { 1 ≤ variable }
         requires within { variable ≤ self.now.variables }
         ensures { result ≡ reason_of self.now.lits self.now.reasons variable }
     {
-        match self.place(variable) {
+        match self.trail_index(variable) {
             None => None,
             Some(place) => self.reasons[place],
         }
@@ -194,7 +194,7 @@ impl Trail {
         self.assigned += 1;
     }
 
-    /// Takes the last literal off the trail.
+    /// Removes the last literal of the trail.
     fn pop(&mut self)
         requires { 0 < length self.old.lits }
         ensures { self.new ≡ record self.old {
@@ -210,7 +210,7 @@ impl Trail {
         self.assigned = place;
     }
 
-    /// Takes the literals of the levels above one off the trail.
+    /// Removes the literals of the levels above one from the trail.
     pub fn back_to(&mut self, level: usize)
         ensures { self.new ≡ record self.old {
           lits = take (kept level self.old.reasons) self.old.lits;
@@ -272,7 +272,7 @@ impl Trail {
     }
 }
 
-/// Compacts the arena. So many of the first reasons and the other references follow their clauses.
+/// Compacts the arena. The first `count` reasons and the other references follow their clauses.
 fn compact_front(
     arena: &mut Arena,
     reasons: &mut [Option<ClauseRef>],
@@ -294,7 +294,7 @@ fn compact_front(
     arena.compact(front, references, live);
 }
 
-/// How many decisions a reason is: one, where there is none.
+/// How many decisions a reason means: one, if there is none.
 fn decisions(reason: &Option<ClauseRef>) -> usize
     ensures { result ≡ (if is_some reason.now then 0 else 1) }
 {

@@ -1,4 +1,4 @@
-//! Clauses of fewer than two literals, which are looked at once, at level 0.
+//! Clauses of fewer than two literals, which are visited once, at level 0.
 
 ghost use Rattle.std.specs.Prelude.{◌≡◌, ◌≢◌, ℕ, ◌+◌, ◌*◌, ◌-◌, ◌<◌, ◌≤◌, ◌∷◌, [], None, Some, Option, false, true, IfSome, IfNone, List, length};
 ghost use Rattle.ba_arena.specs.Clauses.{IsLive, lits_at};
@@ -8,7 +8,7 @@ ghost use Rattle.ba_watch.specs.Propagation.{is_false, AreUnits, InRange, Assign
 use crate::trail::Trail;
 use ba_arena::{Arena, ClauseRef};
 
-/// Makes the literal of a clause of fewer than two literals true, and answers whether it is: otherwise the
+/// Makes the literal of a clause of fewer than two literals true, and answers whether it is. If not, the
 /// clause is false.
 fn assign_unit(arena: &Arena, trail: &mut Trail, clause: ClauseRef) -> bool
     requires live { IsLive arena.now clause }
@@ -30,8 +30,8 @@ fn assign_unit(arena: &Arena, trail: &mut Trail, clause: ClauseRef) -> bool
     }
 }
 
-/// Makes the literals of the waiting clauses true, one after the other, until one of the clauses is false: it
-/// is given, and waits on.
+/// Makes the literals of the waiting clauses true, one after the other, until one of the clauses is false.
+/// That clause is given, and still waits.
 pub fn assign_units(
     arena: &Arena,
     trail: &mut Trail,

@@ -1,9 +1,9 @@
-//! The watch: the clauses with their lists, and the trail.
+//! The watch: clauses with their lists, and the trail.
 
 ghost use Rattle.std.specs.Prelude.{◌≡◌, ◌≢◌, ℕ, ◌+◌, ◌^◌, ◌<◌, ◌≤◌, ◌∷◌, ◌++◌, ◌⊎◌, [], None, Some, true, false, IfOk, OnErr, OnOk, IfSome, IfNone, IsSome, length, take, map, max, ltb, if◌then◌else◌};
 ghost use Rattle.ba_lits.specs.Literals.{lit_at, IsClause};
 ghost use Rattle.ba_watch.specs.Threads.{plain};
-ghost use Rattle.ba_watch.specs.Trails.{value_of, place_if, decided, level_of, reason_of, kept};
+ghost use Rattle.ba_watch.specs.Trails.{value_of, trail_index_if, decided, level_of, reason_of, kept};
 ghost use Rattle.ba_watch.specs.Propagation.{clause_in, lits_in, is_false, IsReason, IsComplete, IsAsserting, Extends, AddsClause, KeepsFacts};
 ghost use Rattle.ba_watch.specs.Deletion.{Deletes, MayDelete};
 
@@ -20,9 +20,10 @@ use std::marker::Model;
 
 /// Clauses, a trail of assigned literals with their reasons, and unit propagation.
 ///
-/// A watch is *settled* after [`new`](Watch::new), after a [`propagate`](Watch::propagate) that answers None and
-/// after a [`back_to`](Watch::back_to) of a level below the present one; `decide`, `assign`, `add_clause` and a
-/// `propagate` that gives a clause end that. In a settled watch no live clause is false or unit.
+/// In a *settled* watch no live clause is false or unit. A watch is settled after [`new`](Watch::new), after
+/// a [`propagate`](Watch::propagate) that answers `None`, and after a [`back_to`](Watch::back_to) of a level
+/// below the present one. It is not after `decide`, `assign`, `add_clause` or a `propagate` that gives a
+/// clause.
 #[derive(Drop)]
 pub struct Watch {
     lists: Lists,
@@ -78,8 +79,7 @@ impl Watch {
 
     /// Makes room for the variables up to a number, and for all later assignments of them.
     ///
-    /// The one error is want of memory or of room, which is for less than 2^32 variables. It leaves the watch as it
-    /// was.
+    /// The only error is out of memory, also for 2^32 variables or more. It leaves the watch as it was.
     pub fn grow(&mut self, variables: u64) -> Result<(), AllocError>
         ensures ok { OnOk result (self.new
             ≡ record self.old { variables = max self.old.variables variables }) }
@@ -100,7 +100,7 @@ impl Watch {
         self.trail.variables()
     }
 
-    /// The value of a literal: None exactly where its variable has none.
+    /// The value of a literal: `None` exactly if its variable has none.
     pub fn value(&self, lit: Lit) -> Option<bool>
         requires { lit.variable ≤ self.now.variables }
         ensures { result ≡ value_of self.now.trail lit }
@@ -115,27 +115,28 @@ impl Watch {
         self.trail.level()
     }
 
-    /// The literals that are true, in the order in which they became so.
+    /// The true literals, in the order of their assignment.
     pub fn trail(&self) -> &[Lit]
         ensures { result.now ≡ self.now.trail }
     {
         self.trail.lits()
     }
 
-    /// For each literal of the trail the clause because of which it is true; None where it was decided.
+    /// The reason of each literal of the trail: the clause because of which it is true, `None` if it was
+    /// decided.
     pub fn reasons(&self) -> &[Option<ClauseRef>]
         ensures { result.now ≡ self.now.reasons }
     {
         self.trail.reasons()
     }
 
-    /// The place on the trail where a variable got its value: None exactly where it has none.
-    pub fn place(&self, variable: u64) -> Option<usize>
+    /// The trail index of a variable's assignment: `None` exactly if it has no value.
+    pub fn trail_index(&self, variable: u64) -> Option<usize>
         requires counted { 1 ≤ variable }
         requires within { variable ≤ self.now.variables }
-        ensures { result ≡ place_if self.now.trail variable }
+        ensures { result ≡ trail_index_if self.now.trail variable }
     {
-        self.trail.place(variable)
+        self.trail.trail_index(variable)
     }
 
     /// The clauses.
@@ -145,7 +146,7 @@ impl Watch {
         &self.lists.arena
     }
 
-    /// The level at which a variable got its value: None exactly where it has none.
+    /// The level at which a variable was assigned: `None` exactly if it has no value.
     pub fn level_of(&self, variable: u64) -> Option<usize>
         requires counted { 1 ≤ variable }
         requires within { variable ≤ self.now.variables }
@@ -154,7 +155,7 @@ impl Watch {
         self.trail.level_of(variable)
     }
 
-    /// The clause because of which a variable got its value: None exactly where it has no value or was decided.
+    /// The reason of a variable: `None` exactly if it has no value or was decided.
     pub fn reason(&self, variable: u64) -> Option<ClauseRef>
         requires counted { 1 ≤ variable }
         requires within { variable ≤ self.now.variables }
@@ -163,7 +164,7 @@ impl Watch {
         self.trail.reason(variable)
     }
 
-    /// What holds of every watch. It does nothing.
+    /// Law: what holds of every watch. It does nothing.
     pub fn keeps_facts(&self)
         ensures { KeepsFacts self.now }
     {
@@ -186,7 +187,8 @@ impl Watch {
         self.settled = false;
     }
 
-    /// Adds a literal to the present level, because of a clause that has it and whose other literals are false.
+    /// Adds a literal at the present level, whose reason is a clause that has it and whose other literals are
+    /// false.
     pub fn assign(&mut self, lit: Lit, reason: ClauseRef)
         requires within { lit.variable ≤ self.old.variables }
         requires free { value_of self.old.trail lit ≡ None }
@@ -202,8 +204,8 @@ impl Watch {
         self.settled = false;
     }
 
-    /// Makes true whatever unit clauses ask for, and gives a clause that is false, or None exactly where no live
-    /// clause is false or unit at its end. It takes no memory.
+    /// Assigns the literals of unit clauses until no clause is unit, and gives a clause that is false. It
+    /// gives `None` exactly if no live clause is false or unit at its end. It takes no memory.
     pub fn propagate(&mut self) -> Option<ClauseRef>
         ensures extends { Extends self.old self.new }
         ensures none { IfNone result ((self.new.settled ≡ true)
@@ -225,7 +227,7 @@ impl Watch {
         conflict
     }
 
-    /// Takes the literals of the levels above one off the trail.
+    /// Removes the literals of the levels above one from the trail.
     pub fn back_to(&mut self, level: usize)
         requires { level ≤ decided self.old.reasons }
         ensures { self.new ≡ record self.old {
@@ -243,11 +245,11 @@ impl Watch {
         }
     }
 
-    /// Adds a clause, at level 0 or with exactly one literal that has no value and all others false, one of them
-    /// from the present level on.
+    /// Adds a clause. The level is 0, or exactly one literal has no value and all others are false, one of
+    /// them from the present level on.
     ///
-    /// The one error is want of memory or of room in the arena, which is for numbers below 2^32 - 1. It leaves the watch
-    /// as it was.
+    /// The only error is out of memory, also if the number is 2^32 - 1 or more, or the arena is full. It
+    /// leaves the watch as it was.
     pub fn add_clause(&mut self, lits: &[Lit], number: u64) -> Result<ClauseRef, AllocError>
         requires clause { IsClause self.old.variables lits.now }
         requires level { (decided self.old.reasons ≡ 0) ⊎ IsAsserting self.old lits.now }
@@ -261,7 +263,8 @@ impl Watch {
         }
     }
 
-    /// Deletes the clauses of the numbers. The others move in place, and the reasons follow them. It takes no memory.
+    /// Deletes the clauses of the numbers. The others move in place, and the reasons follow them. It takes no
+    /// memory.
     pub fn delete(&mut self, numbers: &[u64])
         requires { MayDelete self.old numbers.now }
         ensures { Deletes self.old self.new numbers.now }
@@ -275,7 +278,7 @@ impl Watch {
         );
     }
 
-    /// Adds a clause of fewer than two literals, which waits to be looked at.
+    /// Adds a clause of fewer than two literals, which waits for its visit.
     fn add_short(&mut self, lits: &[Lit], number: u64) -> Result<ClauseRef, AllocError>
         requires clause { IsClause self.old.variables lits.now }
         requires short { length lits.now < 2 }
@@ -292,7 +295,7 @@ impl Watch {
         Ok(clause)
     }
 
-    /// Adds a clause of two or more literals, which watches those two that became false last, or aren't false.
+    /// Adds a clause of two or more literals. It watches the two that became false last, or aren't false.
     fn add_long(&mut self, lits: &[Lit], number: u64) -> Result<ClauseRef, AllocError>
         requires clause { IsClause self.old.variables lits.now }
         requires long { 2 ≤ length lits.now }

@@ -1,4 +1,4 @@
--- The choices at places, where words are added and where some places may not be relaxed.
+-- The choices at places, if words are added and if some places may not be relaxed.
 use Rattle.std.proofs.Common.{◌≡◌, ℕ, ℤ, Bool, true, false, ◌&&◌, cond, List, [], ◌∷◌, ◌++◌, map, refl, ◌∙◌, ap}
 use Rattle.std.proofs.lemmas.Bool.{and_parts}
 use Rattle.std.specs.List.{list_all}

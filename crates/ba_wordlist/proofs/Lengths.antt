@@ -7,7 +7,7 @@ use Rattle.std.proofs.lemmas.List.{get_or_append_left, get_or_at, length_push, l
 use Rattle.std.specs.List.{fold, list_all}
 use Rattle.std.specs.Prelude.{IfSome, int_lt, slice_set}
 use Rattle.std.proofs.Math.Bool.{and-true}
-use Rattle.ba_cells.specs.Cells.{place_read}
+use Rattle.ba_cells.specs.Cells.{index_read}
 use Rattle.ba_code.specs.Operators.{converting}
 use Rattle.ba_code.proofs.Ranges.{test-in}
 use Rattle.ba_numbers.proofs.Conversions.{converted_in_range, value_in_range, value_of_one_in_range}
@@ -73,7 +73,7 @@ fit-append (other ∷ ops) ls op =
       regroup true b c = refl
       regroup false b c = refl
 
--- a word of a list fits behind those before it
+-- a word of a list fits after those before it
 fit-at : (ls : List ℕ) (ops : List WordOp) (w : ℕ) (op : WordOp) → fit_behind ls ops ≡ true
     → slice_get ops w ≡ Some op → fits_behind (fold more_lengths ls (take w ops)) op ≡ true
 fit-at ls [] w op h found = absurd (cc)
@@ -286,7 +286,7 @@ entry-in z vs ls (Select which a b) k h =
     (at-values (elements_at vs a) 0 (k a)) (at-values (elements_at vs b) 0 (k b)))
 entry-in z vs ls (Read array index) k h =
     one-value (element_read (elements_at vs array) (value_at vs index))
-    (at-values (elements_at vs array) (place_read (length (elements_at vs array))
+    (at-values (elements_at vs array) (index_read (length (elements_at vs array))
     (low_word (value_at vs index) % 256))
     (k array))
 entry-in z vs ls (Zeros count) k h = zero-values count

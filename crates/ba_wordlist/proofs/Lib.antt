@@ -1,3 +1,4 @@
 pub mod Values
 pub mod Lengths
 pub mod Choices
+pub mod Joined

@@ -47,7 +47,7 @@ pub values-append : (f : Assignment) (ops more : List WordOp)
 unfolding values_of
 values-append f ops more = fold-append (more_values f) [] ops more
 
--- entries keep what they have as others are added behind them
+-- entries keep what they have as others are added after them
 pub elements-kept : (f : Assignment) (ops more : List WordOp)
     → SameBelow (length ops) (values_of f (ops ++ more)) (values_of f ops)
 elements-kept f ops more w within =

@@ -1,4 +1,4 @@
--- What each word list keeps.
+-- What holds of each word list.
 
 use Rattle.std.specs.Prelude.{ℕ, nat_le, nat_lt, ◌==◌, Bool, true, false, ◌&&◌, ◌||◌, ℤ, Option, Some, List, [], ◌∷◌, ◌++◌, length, slice_get, slice_index_or}
 use Rattle.std.specs.List.{fold, list_all}
@@ -13,20 +13,22 @@ use Rattle.ba_wordlist.specs.declared.words.WordOp.TheVariants.{Const, Free, Fla
 abbrev pub is_word_value : ℤ → Bool
 is_word_value z = is_in I32 z || is_in U32 z
 
--- the number of one of so many entries
+-- the number of an entry, if there are `count` entries
 abbrev pub is_name : ℕ → ℕ → Bool
 is_name count w = nat_lt w count
 
+-- all are names of entries
 abbrev pub are_names : ℕ → List ℕ → Bool
 are_names count ws = list_all (is_name count) ws
 
--- how many elements an entry has, by the lengths of those before it: a word has one
+-- how many elements an entry has, by the lengths of the earlier ones; a word has one
 abbrev pub length_of : List ℕ → WordOp → ℕ
 length_of lengths (Zeros count) = count
 length_of lengths (Fill array values when) = slice_index_or lengths array 1
 length_of lengths (Write array index value when) = slice_index_or lengths array 1
 length_of lengths _ = 1
 
+-- the lengths with that of one more entry
 abbrev pub more_lengths : List ℕ → WordOp → List ℕ
 more_lengths lengths op = lengths ++ length_of lengths op ∷ []
 
@@ -34,7 +36,7 @@ more_lengths lengths op = lengths ++ length_of lengths op ∷ []
 unfoldable pub lengths_of : List WordOp → List ℕ
 lengths_of ops = fold more_lengths [] ops
 
--- an entry behind others of these lengths
+-- an entry fits after others of these lengths
 abbrev pub fits_behind : List ℕ → WordOp → Bool
 fits_behind lengths (Const z) = is_word_value z
 fits_behind lengths Free = true
@@ -54,17 +56,20 @@ fits_behind lengths (Write array index value when) =
     is_name (length lengths) array && is_name (length lengths) index
     && is_name (length lengths) value && is_name (length lengths) when
 
+-- each entry fits the entries before it
 abbrev pub fit_behind : List ℕ → List WordOp → Bool
 fit_behind lengths [] = true
 fit_behind lengths (op ∷ ops) = fits_behind lengths op && fit_behind (more_lengths lengths op) ops
 
+-- each entry of a list fits those before it
 unfoldable pub are_words : List WordOp → Bool
 are_words ops = fit_behind [] ops
 
+-- guard, keep flag and values of an execution are names of entries
 abbrev pub is_place : ℕ → PlaceWords → Bool
 is_place count p = is_name count p.guard && is_name count p.keep && are_names count p.values
 
--- the values of an entry are those of one type, which it shows
+-- the entry shows the type of its values, all of which are of that type
 abbrev pub shows_type : Option WordOp → Bool
 shows_type (Some (Const z)) = true
 shows_type (Some Free) = true
@@ -74,13 +79,15 @@ shows_type (Some (Binary op t a b)) = true
 shows_type (Some (Convert t a)) = true
 shows_type _ = false
 
+-- the values of an execution show their types
 abbrev pub is_typed : List WordOp → PlaceWords → Bool
 is_typed words p = list_all (λ w. shows_type (slice_get words w)) p.values
 
--- each value of a choice is a word whose type is shown
+-- each value of a choice is a word that shows its type
 abbrev pub are_typed : List WordOp → List PlaceWords → Bool
 are_typed words places = list_all (is_typed words) places
 
+-- what each word list keeps
 unfoldable pub is_word_list : List WordOp → List ℕ → List PlaceWords → Bool
 is_word_list words require places = are_words words && are_names (length words) require
     && list_all (is_place (length words)) places && are_typed words places

@@ -1,7 +1,13 @@
-//! Lists of words: a run whose choices are open, as operators over words of 32 bits, each named by its number in the list.
+//! Static single assignment form over bit vectors: a run whose choices are open, as a list of entries, each
+//! an operator over earlier entries.
 //!
-//! This crate holds what the maker of such lists (`guard`) and the encoder of their words share: the lists, and what they mean. An
-//! assignment gives each free word a number, and with it every word has a value.
+//! Symbolic execution (`guard`) makes such lists, and bit-blasting reads them. An assignment gives each free
+//! word and flag a number, and so every entry a value. [`append`] puts a list behind another, so that one
+//! list holds several runs.
 #![tactic(auto)]
 
+mod joining;
+pub mod laws;
 pub mod words;
+
+pub use joining::{append, empty_list};

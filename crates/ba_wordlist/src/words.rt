@@ -1,14 +1,14 @@
-//! Words, requirements, and the words of places.
+//! Entries, requirements, and the words of places.
 
-ghost use Rattle.std.specs.Prelude.{IsTrue};
+ghost use Rattle.std.specs.Prelude.{◌≡◌, IsTrue};
 ghost use Rattle.ba_wordlist.specs.Facts.{is_word_list};
 
 use ba_items::Items;
 use ba_numbers::numbers::{BinOp, CType, UnOp};
 use ba_tree::run::Place;
 
-/// An entry of a word list: a word of 32 bits, or the state of an array at some moment of the run, as a list of such words. It names
-/// earlier entries by their numbers, which count from 0. Where a word is wanted and an array is named, its first element is meant.
+/// An entry of a word list: a word of 32 bits, or an array's state at some moment of the run, as words. It
+/// names earlier entries by their numbers, from 0. An array's entry is its first element if a word is wanted.
 pub enum WordOp {
     /// A number in the range of `I32` or of `U32`.
     Const(i64),
@@ -34,7 +34,7 @@ pub enum WordOp {
         t: CType,
         a: u32,
     },
-    /// The word `yes` where `which` is not 0, and else `no`.
+    /// The word `yes` if `which` is not 0, and else `no`.
     Select {
         which: u32,
         yes: u32,
@@ -45,15 +45,16 @@ pub enum WordOp {
         array: u32,
         index: u32,
     },
-    /// An array of so many elements, from 1 to 256, that are all 0.
+    /// An array of this many elements, from 1 to 256, all 0.
     Zeros(u32),
-    /// The array with these values for its elements, one for each, where `when` is not 0, and else as it was.
+    /// The array with these values for its elements, one for each, if `when` is not 0; else as before.
     Fill {
         of: u32,
         values: Items<u32>,
         when: u32,
     },
-    /// The array with the value for its element at the index, where `when` is not 0 and the index is in the array, and else as it was.
+    /// The array with another value at the index, if `when` is not 0 and the index is in the array; else as
+    /// before.
     Write {
         of: u32,
         index: u32,
@@ -98,8 +99,8 @@ impl Drop for WordOp {
     }
 }
 
-/// The words of an execution of a statement that may be relaxed: it takes place where `guard` is not 0. It goes as written where `keep`
-/// is not 0, and else the values of its choice are those of the words `values`.
+/// The words of an execution of a statement that may be relaxed. The execution takes place if `guard` is not
+/// 0. It goes as written if `keep` is not 0; else the words `values` have the values of its choice.
 pub struct PlaceWords {
     pub place: Place,
     pub guard: u32,
@@ -118,11 +119,13 @@ impl Drop for PlaceWords {
     }
 }
 
-/// A list of words, with the words that are to be other than 0 and the words of the places that a run may come to, in the order in
-/// which it does.
+/// A word list: its entries, its requirements (entries that must not be 0), and the places that a run may
+/// come to, in order.
 ///
-/// Each entry names earlier ones, operators work in `I32` or `U32`, a constant is in the range of one of these, an array has 1 to 256
-/// elements and a `Fill` one value for each. A value of a choice is no `Select`, element or array, so that its entry shows its type.
+/// - Each entry names earlier ones.
+/// - Operators work in `I32` or `U32`, and a constant is in the range of one of these.
+/// - An array has 1 to 256 elements, and a `Fill` one value for each.
+/// - A value of a choice is no `Select`, element or array, so its entry shows its type.
 pub struct WordList {
     pub words: Items<WordOp>,
     pub require: Items<u32>,
@@ -137,5 +140,21 @@ impl Drop for WordList {
             require: _,
             places: _,
         } = self;
+    }
+}
+
+impl WordList {
+    /// The words, the requirements and the places. It takes no memory.
+    pub fn into_parts(self) -> (Items<WordOp>, Items<u32>, Items<PlaceWords>)
+        ensures words { result.0 ≡ self.words }
+        ensures require { result.1 ≡ self.require }
+        ensures places { result.2 ≡ self.places }
+    {
+        let WordList {
+            words,
+            require,
+            places,
+        } = self;
+        (words, require, places)
     }
 }

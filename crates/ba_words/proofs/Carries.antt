@@ -26,7 +26,7 @@ borrow_by_majority true false c = refl
 borrow_by_majority false true c = refl
 borrow_by_majority false false c = refl
 
--- the value of all places, where b begins at a place
+-- the value of all places, if b begins at a place
 from_place : (m l h p a k n value : ℕ) → m ≡ l + p * h → value + 2 ^ 32 * n + l ≡ a + m + k → value < 2 ^ 32 → value ≡ (a + (m - l) + k) % 2 ^ 32
 from_place m l h p a k n value split total small = omega arith
 

@@ -19,7 +19,7 @@ on_ok (Err error) P Q step holds = tt
 pub makes_word : {old new : List Node} {result : Result (List Bit) AllocError} {gates : ℕ} {meaning : (ℕ → Bool) → ℕ} → Grows old new gates → IfOk result (λ word. HasNumber new word meaning) → MakesWord old new result gates meaning
 makes_word grows number = record { number = number; grows = grows }
 
--- a circuit of an operator: its number, where that is the operator's value however the words are read
+-- a circuit of an operator: its number, if that is the operator's value however the words are read
 pub circuit : {gates : ℕ} {meaning : ℕ → ℕ → ℕ} (op : BinOp) (old new : List Node) (a b : List Bit) (result : Result (List Bit) AllocError) → ((signed : Bool) (m n : ℕ) → m < 2 ^ 32 → n < 2 ^ 32 → value_of op (word_type signed) (read signed m) (read signed n) ≡ Some (read signed (meaning m n)))
     → length a ≡ 32 → length b ≡ 32 → Computes old a b new result gates meaning → IsCircuit op old a b new result gates meaning
 circuit op old new a b result law a_long b_long computes = record {

@@ -1,4 +1,4 @@
--- Words of bits as numbers, and as numbers of C.
+-- Words of bits as natural numbers, and as numbers of C.
 
 use Rattle.std.specs.Prelude.{◌≡◌, ℕ, ◌+◌, ◌-◌, ◌*◌, ◌/◌, ◌^◌, Bool, true, false, not, List, [], ◌∷◌, length, map, take, Some, slice_index_or, ℤ, pos, Result, IfOk}
 use Rattle.std.specs.declared.alloc.AllocError.{AllocError}
@@ -26,7 +26,7 @@ spelled (bit ∷ bits) = digit bit + 2 * spelled bits
 abbrev pub number_of : (ℕ → Bool) → List Node → List Bit → ℕ
 number_of free nodes word = spelled (map (truth free nodes) word)
 
--- the bit at a place, and false behind the last
+-- the bit at an index, and false past the end
 abbrev pub bit_at : List Bit → ℕ → Bit
 bit_at word place = slice_index_or word place (constant_bit false)
 
@@ -45,12 +45,12 @@ pub record HasNumber (nodes : List Node) (word : List Bit) (number : (ℕ → Bo
   pub are_bits : AreBitsOf nodes word
   pub holds : (free : ℕ → Bool) → number_of free nodes word ≡ number free
 
--- a call gives a word that has this number, by at most so many gates: where memory runs out the nodes grow no more
+-- a call gives a word with this number, by at most this many gates, also if memory runs out
 pub record MakesWord (old new : List Node) (result : Result (List Bit) AllocError) (gates : ℕ) (meaning : (ℕ → Bool) → ℕ) : Type 0 where
   pub number : IfOk result (λ word. HasNumber new word meaning)
   pub grows : Grows old new gates
 
--- the same for a number that is made of those of two words
+-- the same for a number computed from those of two words
 abbrev pub Computes : List Node → List Bit → List Bit → List Node → Result (List Bit) AllocError → (gates : ℕ) → (meaning : ℕ → ℕ → ℕ) → Type 0
 Computes old a b new result gates meaning =
     MakesWord old new result gates (λ free. meaning (number_of free old a) (number_of free old b))
@@ -60,7 +60,7 @@ abbrev pub word_type : Bool → CType
 word_type true = I32
 word_type false = U32
 
--- the number of C that a word stands for, read as signed or as unsigned
+-- the value of C of a word, read as signed or as unsigned
 abbrev pub word_value : Bool → (ℕ → Bool) → List Node → List Bit → ℤ
 word_value signed free nodes word = converted (word_type signed) (pos (number_of free nodes word))
 
@@ -69,17 +69,17 @@ abbrev pub IsValueOf : BinOp → Bool → List Node → List Bit → List Bit �
 IsValueOf op signed old a b new word =
     (free : ℕ → Bool) → value_of op (word_type signed) (word_value signed free old a) (word_value signed free old b) ≡ Some (word_value signed free new word)
 
--- a call computes the operator of C at two words, however they are read, by this number
+-- a call computes the operator of C on two words, signed or unsigned; `meaning` is the number that it gives
 pub record IsCircuit (op : BinOp) (old : List Node) (a b : List Bit) (new : List Node) (result : Result (List Bit) AllocError) (gates : ℕ) (meaning : ℕ → ℕ → ℕ) : Type 0 where
   pub computes : Computes old a b new result gates meaning
   pub value : IfOk result (λ word. (signed : Bool) → IsValueOf op signed old a b new word)
 
--- the value of an operator for a shift, whose count may be read otherwise than the word
+-- the value of a shift, whose count may be read otherwise than the word
 abbrev pub IsShift : BinOp → Bool → Bool → List Node → List Bit → List Bit → List Node → List Bit → Type 0
 IsShift op signed counted old a count new word =
     (free : ℕ → Bool) → value_of op (word_type signed) (word_value signed free old a) (word_value counted free old count) ≡ Some (word_value signed free new word)
 
--- a number of 32 places moved down, with copies of the sign above it
+-- a number of 32 bits shifted down, with copies of the sign above it
 abbrev pub shifted_down : ℕ → Bool → ℕ → ℕ
 shifted_down n sign places = n / 2 ^ places + digit sign * (2 ^ 32 - 2 ^ (32 - places))
 
@@ -93,11 +93,12 @@ abbrev pub IsValueOfOne : UnOp → Bool → List Node → List Bit → List Node
 IsValueOfOne op signed old a new word =
     (free : ℕ → Bool) → value_of_one op (word_type signed) (word_value signed free old a) ≡ word_value signed free new word
 
--- the number of the low places of a word
+-- the number of the low bits of a word
 abbrev pub low_number : (ℕ → Bool) → List Node → List Bit → ℕ → ℕ
 low_number free nodes word places = spelled (take places (map (truth free nodes) word))
 
--- the low places of sums, and a carry behind them, add up to those of a, and to those of b and a carry from a place on
+-- The low bits of the sums, with the carry after them, are a sum. Its terms are those bits of a, those of b
+-- from an index on, and the carry in.
 pub record AddUp (old : List Node) (a b : List Bit) (carry : Bit) (from : ℕ) (new : List Node) (sums : List Bit) (carried : Bit) (places : ℕ) : Type 0 where
   pub long : length sums ≡ 32
   pub are_bits : AreBitsOf new sums

@@ -1,4 +1,4 @@
-//! Operators that work on each place alone.
+//! Bitwise operators.
 
 ghost use Rattle.std.specs.Prelude.{◌≡◌, ℕ, ◌+◌, ◌-◌, ◌*◌, ◌/◌, ◌%◌, ◌<◌, ◌≤◌, ◌^◌, ◌==◌, Bool, not, ◌&&◌, ◌||◌, List, length, bit_and, bit_or, bit_xor, IfOk, if◌then◌else◌};
 ghost use Rattle.ba_numbers.specs.declared.numbers.BinOp.{BinOp};
@@ -50,7 +50,7 @@ pub fn bit_xor(nodes: &mut Nodes, a: &Word, b: &Word) -> Result<Word, AllocError
     Ok(word)
 }
 
-/// The word `yes` where `which` is true, and else `no`, by at most 96 gates.
+/// The word `yes` if `which` is true, and else `no`, by at most 96 gates.
 pub fn select(nodes: &mut Nodes, which: Bit, yes: &Word, no: &Word) -> Result<Word, AllocError>
     requires chooser { IsBitOf nodes.old which }
     requires words { AreWords nodes.old yes.now no.now }

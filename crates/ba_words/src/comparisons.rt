@@ -11,8 +11,8 @@ use crate::Word;
 use ba_nodes::{Bit, Nodes};
 use std::alloc::AllocError;
 
-/// Whether `a` is less than `b`, read as signed or as unsigned (C90 6.3.8), by at most 288 gates: the borrow
-/// of their difference, where the highest places change sides if they are signs.
+/// Whether `a` is less than `b`, read as signed or as unsigned (C90 6.3.8), by at most 288 gates. It is the
+/// borrow of their difference; signs are exchanged for it.
 pub fn less(nodes: &mut Nodes, a: &Word, b: &Word, signed: bool) -> Result<Bit, AllocError>
     requires { AreWords nodes.old a.now b.now }
     ensures bit { IfOk result (IsBitOf nodes.new) }
@@ -31,7 +31,7 @@ pub fn less(nodes: &mut Nodes, a: &Word, b: &Word, signed: bool) -> Result<Bit, 
     }
 }
 
-/// Whether the low 31 places of `a` are less than those of `b`.
+/// Whether the low 31 bits of `a` are less than those of `b`.
 fn low_less(nodes: &mut Nodes, a: &Word, b: &Word) -> Result<Bit, AllocError>
     requires { AreWords nodes.old a.now b.now }
     ensures { MakesBit nodes.old nodes.new result (3 * 31)
@@ -44,7 +44,7 @@ fn low_less(nodes: &mut Nodes, a: &Word, b: &Word) -> Result<Bit, AllocError>
     Ok(below)
 }
 
-/// The borrow of `a` less `b` at one place: `a` is false and `b` true, or they are equal and the places below
+/// The borrow of `a` minus `b` at one bit: `a` is false and `b` true, or they are equal and the bits below
 /// borrow.
 #[tactic(auto, using(crate::proofs::Carries::borrow_by_majority))]
 fn borrow(nodes: &mut Nodes, a: Bit, b: Bit, below: Bit) -> Result<Bit, AllocError>
@@ -87,7 +87,7 @@ fn also_equal(nodes: &mut Nodes, same: Bit, a: Bit, b: Bit) -> Result<Bit, Alloc
     nodes.and(same, Nodes::not(differ))
 }
 
-/// Whether some bit of the word is true, by at most 31 gates.
+/// Whether the word is not zero, by at most 31 gates.
 pub fn nonzero(nodes: &mut Nodes, a: &Word) -> Result<Bit, AllocError>
     requires { AreBitsOf nodes.old a.now }
     ensures makes { MakesBit nodes.old nodes.new result 31

@@ -1,9 +1,8 @@
-//! Circuits of 32-bit words that compute the operators of C.
+//! Circuits over 32-bit words: adders, comparators, shifters, bitwise operators, selects and conversions.
 //!
-//! A word is its bits, the lowest first. Each circuit gives, for every assignment of the free bits, the value
-//! of the operator, and adds at most the stated number of gates; constants are folded through, and gates that
-//! were made before are found again. The one error is want of memory, which leaves every bit its value; further
-//! gates may have been added.
+//! A word is its bits, the lowest first. Each circuit gives the operator's value for every assignment of the
+//! free bits, and adds at most the stated number of gates. Constants are folded, and existing gates are found
+//! again. The only error is out of memory. It leaves every bit its value; gates may have been added.
 #![tactic(auto)]
 
 mod bitwise;

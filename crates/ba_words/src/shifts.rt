@@ -1,4 +1,4 @@
-//! Shifts, over one level of selects for each of the five bits of the count.
+//! Barrel shifters: one level of selects for each of the five bits of the count.
 
 ghost use Rattle.std.specs.Prelude.{◌≡◌, ℕ, ◌+◌, ◌-◌, ◌*◌, ◌/◌, ◌%◌, ◌<◌, ◌≤◌, ◌^◌, ◌==◌, Bool, false, nat_lt, ◌&&◌, ◌||◌, List, length, IfOk, if◌then◌else◌};
 ghost use Rattle.ba_numbers.specs.declared.numbers.BinOp.{BinOp};
@@ -12,7 +12,7 @@ use crate::{Word, select};
 use ba_nodes::{Bit, Nodes};
 use std::alloc::AllocError;
 
-/// The word times two to the power of the low five bits of `count`, modulo 2^32 (C90 6.3.7), by at most 480
+/// The word times 2 to the power of the low five bits of `count`, modulo 2^32 (C90 6.3.7), by at most 480
 /// gates.
 pub fn shl(nodes: &mut Nodes, a: &Word, count: &Word) -> Result<Word, AllocError>
     requires { AreWords nodes.old a.now count.now }
@@ -30,7 +30,7 @@ pub fn shl(nodes: &mut Nodes, a: &Word, count: &Word) -> Result<Word, AllocError
     Ok(word)
 }
 
-/// The word divided by two to the power of the low five bits of `count`, rounded down (C90 6.3.7), by at most
+/// The word divided by 2 to the power of the low five bits of `count`, rounded down (C90 6.3.7), by at most
 /// 480 gates. A signed word keeps its sign.
 pub fn shr(nodes: &mut Nodes, a: &Word, count: &Word, signed: bool) -> Result<Word, AllocError>
     requires { AreWords nodes.old a.now count.now }
@@ -49,7 +49,7 @@ pub fn shr(nodes: &mut Nodes, a: &Word, count: &Word, signed: bool) -> Result<Wo
     Ok(word)
 }
 
-/// The bit that says whether the word is negative: its highest, or false for an unsigned word. It takes no memory.
+/// Whether the word is negative: its highest bit, or false for an unsigned word. It takes no memory.
 pub fn sign_of(a: &Word, signed: bool) -> Bit
     ensures bit { result ≡ (if signed then bit_at a.now 31 else constant_bit false) }
     ensures value { (nodes : List Node) (free : ℕ → Bool) → truth free nodes result
@@ -62,7 +62,7 @@ pub fn sign_of(a: &Word, signed: bool) -> Bit
     }
 }
 
-/// The bits `by` places higher, and false below them. It takes no memory.
+/// The bits shifted up by `by`, with false below them. It takes no memory.
 pub fn moved_up(word: &Word, by: usize) -> Word
     ensures long { length result ≡ 32 }
     ensures bits { (nodes : List Node) → AreBitsOf nodes word.now → AreBitsOf nodes result }
@@ -80,7 +80,7 @@ pub fn moved_up(word: &Word, by: usize) -> Word
     moved
 }
 
-/// The bits `by` places lower, and `fill` above them.
+/// The bits shifted down by `by`, with `fill` above them.
 fn moved_down(word: &Word, by: usize, fill: Bit) -> Word
     requires { by ≤ 32 }
     ensures long { length result ≡ 32 }

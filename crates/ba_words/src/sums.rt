@@ -1,4 +1,4 @@
-//! Sums, differences and negation, by a ripple of carries.
+//! Ripple-carry sums, differences and negation.
 
 ghost use Rattle.std.specs.Prelude.{◌≡◌, ℕ, ◌+◌, ◌-◌, ◌*◌, ◌/◌, ◌%◌, ◌<◌, ◌≤◌, ◌^◌, ◌==◌, Bool, true, false, ◌&&◌, ◌||◌, length, IfOk, if◌then◌else◌};
 ghost use Rattle.ba_numbers.specs.declared.numbers.BinOp.{BinOp};
@@ -32,7 +32,7 @@ pub fn sub(nodes: &mut Nodes, a: &Word, b: &Word) -> Result<Word, AllocError>
     sum(nodes, a, &complement, Nodes::constant(true))
 }
 
-/// The word with the opposite sign, modulo 2^32 (C90 6.3.3.3), by at most 288 gates.
+/// The negated word, modulo 2^32 (C90 6.3.3.3), by at most 288 gates.
 pub fn neg(nodes: &mut Nodes, a: &Word) -> Result<Word, AllocError>
     requires { AreBitsOf nodes.old a.now }
     ensures makes { MakesWord nodes.old nodes.new result 288
@@ -45,7 +45,7 @@ pub fn neg(nodes: &mut Nodes, a: &Word) -> Result<Word, AllocError>
     sum(nodes, &zero, &complement, Nodes::constant(true))
 }
 
-/// The sum of two words and a carry, and the carry out of the highest place, by at most 288 gates.
+/// The sum of two words and a carry, and the carry out of the highest bit, by at most 288 gates.
 pub fn add_with_carry(
     nodes: &mut Nodes,
     a: &Word,
@@ -68,8 +68,8 @@ pub fn add_with_carry(
     Ok((sums, carry_out))
 }
 
-/// The sum of `a` and of `b` and a carry, both moved up by `place` places, modulo 2^32, by at most 9 gates for each
-/// place from there on.
+/// The sum of `a`, and of `b` and a carry, both shifted up by `place` bits, modulo 2^32. It takes at most 9
+/// gates for each bit from there on.
 pub fn add_moved_up(
     nodes: &mut Nodes,
     a: &Word,
@@ -99,7 +99,7 @@ fn sum(nodes: &mut Nodes, a: &Word, b: &Word, carry: Bit) -> Result<Word, AllocE
     sum_from(nodes, a, b, carry, 0)
 }
 
-/// The sum of a word, the places of another from one on and a carry into that place, modulo 2^32.
+/// The sum of a word, the bits of another from an index on, and a carry into that bit, modulo 2^32.
 fn sum_from(
     nodes: &mut Nodes,
     a: &Word,
@@ -133,8 +133,8 @@ fn sum_bit(nodes: &mut Nodes, a: Bit, b: Bit, carry: Bit) -> Result<Bit, AllocEr
     nodes.xor(half, carry)
 }
 
-/// The sums of the places from one on and below the highest, and the carry into that. The places before are those of
-/// `a`.
+/// The sums of the bits from an index on and below the highest, and the carry into that. The bits before are
+/// those of `a`.
 fn low_sums(
     nodes: &mut Nodes,
     a: &Word,

@@ -17,7 +17,7 @@ use Rattle.ba_world.specs.Memory.{File, Opened, NamesDiffer, file_of, with_file,
 abbrev pub opened : List ℕ → ℕ → Opened
 opened name offset = record { name = name; offset = offset }
 
--- what stands past the end
+-- what is past the end
 abbrev pub no_file : File
 no_file = record { name = []; bytes = []; begun = false }
 
@@ -71,7 +71,7 @@ with_file-push new (file ∷ files) none =
     let other : bytes_eq file.name new.name ≡ false = passed.0 in
     rw other (ap (λ z. file ∷ z) (with_file-push new files passed.1))
 
--- where there is no file of a name, each file has another
+-- if there is no file of a name, each file has another
 pub absent-name : (files : List File) (name : List ℕ) → file_of files name ≡ None → (place : ℕ) (d : File) → place < length files → (slice_index_or files place d).name ≡ name → ⊥
 absent-name [] name none place d within same = absurd (omega arith)
 absent-name (file ∷ files) name none zero d within same =
@@ -97,7 +97,7 @@ NamesDiffer-map f key (value ∷ values) named differ i j d below within same =
     let inside : j < length all = omega (arith, length-map all f) in
     differ i j value below inside (sym (name-map f key all i d value named (omega arith)) ∙ same ∙ name-map f key all j d value named inside)
 
--- names stay where a file is put in place of one of its name
+-- names stay if a file is put in place of one of its name
 pub name_at-set : (files : List File) (place : ℕ) (file : File) → place < length files → file.name ≡ name_at files place → (other : ℕ) → name_at (set files place file) other ≡ name_at files other
 name_at-set [] place file within same other = absurd (omega arith)
 name_at-set (first ∷ files) zero file within same zero = same
@@ -105,7 +105,7 @@ name_at-set (first ∷ files) zero file within same (suc other) = refl
 name_at-set (first ∷ files) (suc place) file within same zero = refl
 name_at-set (first ∷ files) (suc place) file within same (suc other) = name_at-set files place file (omega arith) same other
 
--- where the names stay, so does the name of the file at a place that may be given
+-- if the names stay, so does the name of the file at a place that may be given
 pub option_map-name_at : (places : Option ℕ) (files after : List File) → ((other : ℕ) → name_at after other ≡ name_at files other) → option_map (name_at after) places ≡ option_map (name_at files) places
 option_map-name_at None files after stay = refl
 option_map-name_at (Some place) files after stay = ap Some (stay place)
@@ -114,7 +114,7 @@ pub option_map-opened : (reading : Option ReadPosition) (files after : List File
 option_map-opened None files after stay = refl
 option_map-opened (Some r) files after stay = ap (λ name. Some (opened name r.offset)) (stay r.file)
 
--- a front and what stands after as many
+-- a front and what follows as many
 pub take-append-drop_length : (most : ℕ) (left : List ℕ) → take most left ++ drop (length (take most left)) left ≡ left
 take-append-drop_length zero left = refl
 take-append-drop_length (suc most) [] = refl
@@ -123,7 +123,7 @@ take-append-drop_length (suc most) (byte ∷ left) = ap (λ z. byte ∷ z) (take
 pub drop-drop : (offset count : ℕ) (bytes : List ℕ) → drop count (drop offset bytes) ≡ drop (offset + count) bytes
 drop-drop offset count bytes = grind (arith, common_steps)
 
--- what is given is empty exactly where nothing is left
+-- what is given is empty exactly if nothing is left
 pub length-take-zero : (most : ℕ) (left : List ℕ) → 0 < most → length (take most left) ≡ 0 → left ≡ []
 length-take-zero most left some none = grind (arith, common_steps)
 

@@ -1,4 +1,4 @@
--- What a read has come to still stands after printing.
+-- What a read has come to still is after printing.
 
 use Rattle.std.proofs.Common.{◌≡◌, ◌⊎◌, inl, inr, List, ℕ, [], ◌++◌, length, None, Some, IfSome, option_map, sym, ap, subst, ◌∙◌}
 use Rattle.ba_world.specs.World.{HasReadFault, OnlyPrints, Outside, Rose}

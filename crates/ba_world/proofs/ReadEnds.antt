@@ -11,7 +11,7 @@ use Rattle.ba_world.specs.declared.read.ReadFileError.{ReadFileError}
 use Rattle.ba_world.specs.declared.read.ReadFileError.TheVariants as read
 use Rattle.ba_world.proofs.WholeReads.{longer_by, only_reads_on, read_on, read_past, rose_since}
 
--- what stands before and after each piece
+-- what precedes and after each piece
 abbrev pub Reading : List ℕ → List ℕ → ℕ → Outside → Outside → Type 0
 Reading name bytes limit old new = record {
   read : IsReadTo name bytes old new;
@@ -113,7 +113,7 @@ ended_unopened name limit result cause old new is fault closed given stays =
 none_more : (bytes limit old mid new : ℕ) → mid ≤ old + bytes → bytes ≤ limit → new ≡ mid → new ≤ old + limit
 none_more bytes limit old mid new most within is = omega arith
 
--- a read goes on where no byte was given
+-- a read goes on if no byte was given
 read_still : (name bytes : List ℕ) (old mid new : Outside) → IsReadTo name bytes old mid → GivesNone mid new →
     new.is_reading ≡ true → IsReadTo name bytes old new
 read_still name bytes old mid new read none reading = record {
@@ -217,7 +217,7 @@ ended_past name bytes buffer count limit old mid new reading piece still stays l
       stays = only_reads_on old mid new reading.stays stays;
     }
 
--- it ended with a want of memory for a piece
+-- it ended with out of memory for a piece
 pub ended_short : (name bytes buffer : List ℕ) (count limit : ℕ)
     (result : Result (Vec ℕ Global) ReadFileError) (old mid new : Outside) →
     IsErrAnd result (λ error. error ≡ read.Memory) → Reading name bytes limit old mid →

@@ -147,7 +147,7 @@ others-after_add (Some name) bytes files after (inl (count, is)) other apart =
     rw is (file_of-added_to_other name (take count bytes) files other (λ e. apart (ap Some (sym e))))
 others-after_add writing bytes files after (inr is) other apart = rw is refl
 
--- what `add` appends where it ends well
+-- what `add` appends if it ends well
 pub added_whole : (result : Result (Unit {0}) WorldError) (bytes : List ℕ) (old new : Memory) →
     Ending result new (called old) (with_added (half_of bytes) (write_failed old))
     (with_added bytes (called old)) →
@@ -161,7 +161,7 @@ added_whole result bytes old new (ends e is) = rw e (go old.writing new.files (a
     go None after same = tt
     go (Some name) after same = rw same (kept-added_to name bytes old.files)
 
--- where the other files stay, what is held stays but for the one being written
+-- if the other files stay, what is held stays except for the one being written
 pub held_in-written : (writing : Option (List ℕ)) (files after : List File) →
     ((other : List ℕ) → writing ≢ Some other → file_of after other ≡ file_of files other) →
     StaysButWritten writing (held_in files) (held_in after)

@@ -13,7 +13,7 @@ pub record OpenFile : Type 0 where
   pub name : Known
   pub bytes : Known
 
--- the files being read and written, the output, and the counts
+-- the files being read and written, the output, and the counts of faults
 pub record Host : Type 0 where
   pub reading : Option OpenFile
   pub writing : Option OpenFile
@@ -26,10 +26,11 @@ pub record Host : Type 0 where
 abbrev pub new_host : Known → Host
 new_host output = record { reading = None; writing = None; output = output; read_faults = 0; write_faults = 0; given = 0 }
 
--- what is known of the name and of the bytes of a file, where it is open
+-- what is known of the name of a file, if it is open
 abbrev pub known_name : Option OpenFile → Known
 known_name file = option_and_then (λ (file : OpenFile). file.name) file
 
+-- what is known of the bytes of a file, if it is open
 abbrev pub known_bytes : Option OpenFile → Known
 known_bytes file = option_and_then (λ (file : OpenFile). file.bytes) file
 

@@ -53,15 +53,16 @@ kept_of file = cond file.begun (Some file.bytes) None
 abbrev pub held_in : List File → List ℕ → Option (Option (List ℕ))
 held_in files name = Some (option_map (λ file. file.bytes) (file_of files name))
 
+-- the bytes of the file of this name, if it was begun here
 abbrev pub kept_in : List File → List ℕ → Option (List ℕ)
 kept_in files name = option_and_then kept_of (file_of files name)
 
--- the files with this one in place of the one of its name, or at the end where there was none
+-- the files with this one in place of the one of its name, or at the end if there was none
 abbrev pub with_file : File → List File → List File
 with_file new [] = new ∷ []
 with_file new (file ∷ files) = cond (bytes_eq file.name new.name) (new ∷ files) (file ∷ with_file new files)
 
--- the name of the file at this place of the list
+-- the name of the file at this index of the list
 abbrev pub name_at : List File → ℕ → List ℕ
 name_at files place = (slice_index_or files place (record { name = []; bytes = []; begun = false })).name
 
@@ -104,12 +105,15 @@ fails_next world = list_any (λ number. number == world.calls) world.fails
 abbrev pub called : Memory → Memory
 called world = record world { calls = raised world.calls 1 }
 
+-- the world after a call in which reading failed
 abbrev pub read_failed : Memory → Memory
 read_failed world = record (called world) { read_faults = raised world.read_faults 1 }
 
+-- the world after a call in which writing failed
 abbrev pub write_failed : Memory → Memory
 write_failed world = record (called world) { write_faults = raised world.write_faults 1 }
 
+-- the world after a print that found no memory
 abbrev pub print_short : Memory → Memory
 print_short world = record (called world) { print_shortages = raised world.print_shortages 1 }
 
@@ -137,11 +141,12 @@ new_memory files fails piece = record {
 abbrev pub After : Type 0
 After = Result (Unit {0}) WorldError × Memory
 
--- `open_file`, where this file has the name
+-- `open_file`, if this file has the name
 abbrev pub after_search : List ℕ → Memory → Option File → After
 after_search name world None = (Err Failed, record (called world) { reading = None })
 after_search name world (Some file) = (Ok tt, record (called world) { reading = Some (record { name = name; offset = 0 }) })
 
+-- what opening a file answers, and the world after it
 abbrev pub after_open : List ℕ → Memory → After
 after_open name world =
     cond (fails_next world) (Err Failed, record (read_failed world) { reading = None }) (after_search name world (file_of world.files name))
@@ -165,6 +170,7 @@ after_piece into world piece = (
   },
 )
 
+-- what reading a piece answers, the buffer, and the world after it
 abbrev pub after_next : List ℕ → Memory → Result ℕ WorldError × List ℕ × Memory
 after_next into world =
     cond (fails_next world) (Err Failed, into, read_failed world) (after_piece into world (piece_of (length into) world))
@@ -186,6 +192,7 @@ added_to None bytes files = files
 added_to (Some name) bytes files =
     option_map_or (λ file. with_file (record file { bytes = file.bytes ++ bytes }) files) (file_of files name) files
 
+-- the world with these bytes added to the file that is being written
 abbrev pub with_added : List ℕ → Memory → Memory
 with_added bytes world = record world { files = added_to world.writing bytes world.files }
 

@@ -12,7 +12,7 @@ abbrev pub read_error : WorldError → ReadFileError
 read_error Failed = read.Failed
 read_error Memory = read.Memory
 
--- a count rose by exactly so much, where one that has come to its type's end may stand still
+-- a count rose by exactly this much; at its type's end it may stay the same
 abbrev pub RoseBy : ℕ → ℕ → ℕ → Type 0
 RoseBy by old new = (raised old by ≤ new) × (new ≤ old + by)
 
@@ -26,32 +26,32 @@ pub record IsReadTo (name bytes : List ℕ) (old new : Outside) : Type 0 where
   pub parts : old.held name ≡ option_map (λ rest. Some (bytes ++ rest)) new.left
   pub counted : RoseBy (length bytes) old.given new.given
 
--- The file of this name was read to its end: these are its bytes, where they are told, and nothing is left.
+-- The file of this name was read to its end: these are its bytes, if they are told, and nothing is left.
 pub record IsReadWhole (name bytes : List ℕ) (old new : Outside) : Type 0 where
   pub reading : new.is_reading ≡ true
   pub bytes_are : IfSome (old.held name) (λ file. file ≡ Some bytes)
   pub at_end : IfSome new.left (λ rest. rest ≡ [])
   pub counted : new.given ≡ raised old.given (length bytes)
 
--- A read of the file of this name stopped in opening it, since a fault rose or there is no such file: no file is
--- being read, and no byte was given.
+-- A read of the file of this name stopped in opening it, since a fault rose or there is no such file. No file
+-- is being read, and no byte was given.
 pub record StoppedInOpening (name : List ℕ) (old new : Outside) : Type 0 where
   pub cause : HasReadFault old new ⊎ (old.held name ≡ Some None)
   pub closed : new.is_reading ≡ false
   pub none_given : new.given ≡ old.given
 
--- It stopped in reading it, since a fault rose, when no more bytes than the limit had been given.
+-- A read stopped by a fault of reading. At most as many bytes as the limit had been given.
 pub record StoppedInReading (name : List ℕ) (limit : ℕ) (old new : Outside) : Type 0 where
   pub bytes : List ℕ
   pub read : IsReadTo name bytes old new
   pub within : length bytes ≤ limit
   pub cause : HasReadFault old new
 
--- It stopped by a fault, or since there is no such file.
+-- A read stopped by a fault, or since there is no such file.
 abbrev pub Stopped : List ℕ → ℕ → Outside → Outside → Type 0
 Stopped name limit old new = StoppedInOpening name old new ⊎ StoppedInReading name limit old new
 
--- It stopped with the piece by which more bytes than the limit had been given.
+-- A read stopped with the piece that passed the limit.
 pub record StoppedPast (name : List ℕ) (limit : ℕ) (old new : Outside) : Type 0 where
   pub bytes : List ℕ
   pub read : IsReadTo name bytes old new

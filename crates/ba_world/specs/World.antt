@@ -1,4 +1,4 @@
--- The outside as a world tells it, and how calls change it. What isn't told is `None` throughout.
+-- The outside as a world tells it, and how calls change it. What a world does not tell is `None`.
 
 use Rattle.std.specs.Prelude.{◌≡◌, ◌≢◌, ◌⊎◌, ◌↔◌, ℕ, ◌+◌, ◌-◌, ◌^◌, ◌<◌, ◌≤◌, min, Bool, true, false, List, [], ◌++◌, length, take, drop, Option, None, Some, option_map, IsSome, IfSome}
 
@@ -28,11 +28,11 @@ pub record Outside : Type 0 where
 
 -- COUNTS
 
--- a count of 64 bits after a rise: it stands still at its type's end
+-- a count of 64 bits after a rise: it stays at its type's end
 abbrev pub raised : ℕ → ℕ → ℕ
 raised count by = min (count + by) (2 ^ 64 - 1)
 
--- a count rose, where one that has come to its type's end counts as risen
+-- a count rose, if one that has come to its type's end counts as risen
 abbrev pub Rose : ℕ → ℕ → Type 0
 Rose old new = (old < new) ⊎ (2 ^ 64 - 1 ≤ new)
 
@@ -40,6 +40,7 @@ Rose old new = (old < new) ⊎ (2 ^ 64 - 1 ≤ new)
 abbrev pub HasReadFault : Outside → Outside → Type 0
 HasReadFault old new = Rose old.read_faults new.read_faults
 
+-- the count of faults of writing rose
 abbrev pub HasWriteFault : Outside → Outside → Type 0
 HasWriteFault old new = Rose old.write_faults new.write_faults
 
@@ -49,7 +50,7 @@ HasPrintShortage old new = Rose old.print_shortages new.print_shortages
 
 -- WHAT STAYS
 
--- Only reading went on: the file being read, what is left of it and the count of bytes given may be others, the
+-- Only reading went on. The file being read, what it has left and the count of bytes given may change. The
 -- faults of reading don't fall, and all else stays.
 pub record OnlyReads (old new : Outside) : Type 0 where
   pub no_fall : old.read_faults ≤ new.read_faults
@@ -61,8 +62,8 @@ pub record OnlyReads (old new : Outside) : Type 0 where
   pub write_faults : new.write_faults ≡ old.write_faults
   pub print_shortages : new.print_shortages ≡ old.print_shortages
 
--- Only files were written: what is held and kept, the file being written, and what is left of the one being
--- read, which may be the same, may be others, the faults of writing don't fall, and all else stays.
+-- Only writing of files went on. What is held and kept, the file being written, and the rest of the file
+-- being read may change. The faults of writing don't fall, and all else stays.
 pub record OnlyWrites (old new : Outside) : Type 0 where
   pub no_fall : old.write_faults ≤ new.write_faults
   pub printed : new.printed ≡ old.printed
@@ -71,8 +72,8 @@ pub record OnlyWrites (old new : Outside) : Type 0 where
   pub print_shortages : new.print_shortages ≡ old.print_shortages
   pub given : new.given ≡ old.given
 
--- Only printing went on: more may have been printed, the faults of printing and the prints that found no memory don't
--- fall, and all else stays.
+-- Only printing went on. The printed bytes may grow. The faults of printing and the prints that found no
+-- memory don't fall, and all else stays.
 pub record OnlyPrints (old new : Outside) : Type 0 where
   pub no_fall : old.write_faults ≤ new.write_faults
   pub no_fewer : old.print_shortages ≤ new.print_shortages
@@ -92,8 +93,8 @@ pub record IsOpened (name : List ℕ) (old new : Outside) : Type 0 where
   pub reading : new.is_reading ≡ true
   pub whole : old.held name ≡ option_map Some new.left
 
--- the first `count` bytes of a buffer are the first of the bytes that were left, which are fewer by
--- them, and there is none exactly where nothing was left
+-- the first `count` bytes of a buffer are the first bytes that the file had left; the rest is left now.
+-- `count` is 0 exactly if nothing was left
 abbrev pub Consumes : ℕ → List ℕ → Option (List ℕ) → Option (List ℕ) → Type 0
 Consumes count buffer None after = after ≡ None
 Consumes count buffer (Some bytes) after =
@@ -112,23 +113,23 @@ pub record GivesNone (old new : Outside) : Type 0 where
 
 -- WRITING AND PRINTING
 
--- the bytes were appended to the text, where it is told
+-- the bytes were appended to the text, if it is told
 abbrev pub Appends : Option (List ℕ) → Option (List ℕ) → List ℕ → Type 0
 Appends old new bytes = new ≡ option_map (λ text. text ++ bytes) old
 
--- some prefix of the bytes was appended to the text, where it is told
+-- some prefix of the bytes was appended to the text, if it is told
 abbrev pub AppendsPrefix : Option (List ℕ) → Option (List ℕ) → List ℕ → Type 0
 AppendsPrefix old new bytes = (count : ℕ) × Appends old new (take count bytes)
 
--- what is told of every name stays, but for one name
+-- what is told of every name stays, except for one name
 abbrev pub StaysBut : {T : Type 0} → List ℕ → (List ℕ → T) → (List ℕ → T) → Type 0
 StaysBut name old new = (other : List ℕ) → other ≢ name → new other ≡ old other
 
--- what is told of every name stays, but for the one that is told of the file being written
+-- what is told of every name stays, except for the one that is told of the file being written
 abbrev pub StaysButWritten : {T : Type 0} → Option (List ℕ) → (List ℕ → T) → (List ℕ → T) → Type 0
 StaysButWritten writing old new = (other : List ℕ) → writing ≢ Some other → new other ≡ old other
 
--- an empty file of this name is being written; where anything is told of what is kept, so is the name
+-- an empty file of this name is being written; if anything is told of what is kept, so is the name
 pub record IsBegun (name : List ℕ) (new : Outside) : Type 0 where
   pub begun : new.is_writing ≡ true
   pub empty : IfSome (new.kept name) (λ bytes. bytes ≡ [])
@@ -150,6 +151,7 @@ pub record OthersStay (name : List ℕ) (old new : Outside) : Type 0 where
 abbrev pub Adds : Outside → Outside → List ℕ → Type 0
 Adds old new bytes = IfSome old.writing (λ name. Appends (old.kept name) (new.kept name) bytes)
 
+-- the first of these bytes were added to the file that is being written, as far as that is told
 abbrev pub AddsPrefix : Outside → Outside → List ℕ → Type 0
 AddsPrefix old new bytes = IfSome old.writing (λ name. AppendsPrefix (old.kept name) (new.kept name) bytes)
 
@@ -160,9 +162,10 @@ pub record StillWrites (old new : Outside) : Type 0 where
   pub held : StaysButWritten old.writing old.held new.held
   pub kept : StaysButWritten old.writing old.kept new.kept
 
--- the bytes were printed, where it is told what was; and some prefix of them was
+-- the bytes were printed, if it is told what was; and some prefix of them was
 abbrev pub Prints : Outside → Outside → List ℕ → Type 0
 Prints old new bytes = Appends old.printed new.printed bytes
 
+-- the first of these bytes were printed, as far as that is told
 abbrev pub PrintsPrefix : Outside → Outside → List ℕ → Type 0
 PrintsPrefix old new bytes = AppendsPrefix old.printed new.printed bytes

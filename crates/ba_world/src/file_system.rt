@@ -11,7 +11,7 @@ pub trait FileSystem {
     /// A file that is open.
     type File: Read + Write + Drop;
 
-    // The name by which a file was opened to be read, and that by which one was made, where these are known.
+    // The names by which files were opened to be read, and were made, if these are known.
     ghost opened: { Self.File → Option (List ℕ) };
 
     ghost created: { Self.File → Option (List ℕ) };
@@ -20,7 +20,7 @@ pub trait FileSystem {
     fn open_file(&self, name: &str) -> io::Result<Self::File>
         ensures { IfOk result (λ file. IfSome (opened file) (λ known. known ≡ name.now)) };
 
-    /// Makes an empty file of this name, in place of one that is there, to be written.
+    /// Makes an empty file of this name, to be written. It replaces a file of that name.
     fn create_file(&self, name: &str) -> io::Result<Self::File>
         ensures { IfOk result (λ file. IfSome (created file) (λ known. known ≡ name.now)) };
 }

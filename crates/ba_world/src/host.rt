@@ -13,9 +13,9 @@ use std::marker::Model;
 
 /// The world over a file system and a standard output, as `main` is given them.
 ///
-/// It tells no content: what a real file holds or an output takes is outside of any contract. Where names and
-/// bytes are known, the clauses of its own calls say which file is opened or made, and how each call changes the
-/// bytes of the files and of the output. A file is closed where another takes its place or the world is dropped.
+/// It tells no content: no contract can say what a real file holds or an output takes. If names and bytes are
+/// known, the clauses of its calls say which file is opened or made. They also say how each call changes the
+/// bytes of files and output. A file is closed when another replaces it or the world is dropped.
 #[derive(Drop)]
 pub struct HostWorld<F: FileSystem + Drop, O: Write + Drop> {
     files: F,
@@ -65,7 +65,7 @@ impl<F: FileSystem + Drop, O: Write + Drop> HostWorld<F, O> {
     }
 }
 
-/// Each error of the system is a fault, and is answered [`WorldError::Failed`].
+/// Each error of the system is a fault, and the call answers [`WorldError::Failed`].
 impl<F: FileSystem + Drop, O: Write + Drop> World for HostWorld<F, O> {
     ghost outside = { outside_of };
 
@@ -90,7 +90,7 @@ impl<F: FileSystem + Drop, O: Write + Drop> World for HostWorld<F, O> {
         requires reading { IsSome self.old.reading }
         ensures within { IfOk result (λ count. count ≤ length into.new) }
 
-        // The bytes are those that the file had left, and there is none only where it had none.
+        // The bytes are those that the file had left; there are none only if it had none.
         ensures read { ReadConsumes
             (known_bytes self.old.reading) (known_bytes self.new.reading) result into.new }
         ensures ok { IfOk result (λ count. self.new
@@ -184,7 +184,7 @@ fn counted<T>(outcome: io::Result<T>, faults: &mut u64) -> Result<T, WorldError>
     }
 }
 
-/// Writes all of the bytes, or fails when it has written some prefix of them.
+/// Writes all of the bytes. On an error it has written some prefix of them.
 fn write_whole<W: Write>(writer: &mut W, bytes: &[u8]) -> io::Result<()>
     ensures whole { OnOk result (Appends (W.contents writer.old) (W.contents writer.new)
         bytes.now) }

@@ -1,8 +1,8 @@
-//! The outside of the program: files that are read and written, and what is printed.
+//! The interface to files and standard output.
 //!
 //! A [`World`] is all that the program meets of the outside. Its contract says what each call gives and
-//! changes as far as the world tells it, and when a call may fail. [`MemoryWorld`] tells everything and fails
-//! where it is told to, for tests; [`HostWorld`] stands over the files of a [`FileSystem`] and standard output,
+//! changes, as far as the world tells it, and when a call may fail. [`MemoryWorld`] tells everything, and
+//! chosen calls of it fail; it is for tests. [`HostWorld`] is made over a [`FileSystem`] and standard output,
 //! and tells no content.
 #![tactic(auto)]
 

@@ -42,24 +42,28 @@ impl Model for MemoryFile {
 }
 
 impl MemoryFile {
+    /// A file of this name with these bytes. `begun` says whether a call began it.
     fn new(name: String, bytes: Vec<u8>, begun: bool) -> MemoryFile
         ensures { result ≡ record { name = string_bytes name; bytes = bytes.items; begun = begun } }
     {
         MemoryFile { name, bytes, begun }
     }
 
+    /// The name.
     fn name(&self) -> &str
         ensures { result.now ≡ self.now.name }
     {
         self.name.as_str()
     }
 
+    /// The bytes.
     fn bytes(&self) -> &[u8]
         ensures { result.now ≡ self.now.bytes }
     {
         self.bytes.as_slice()
     }
 
+    /// The bytes from this offset on; none past the end.
     fn bytes_from(&self, offset: usize) -> &[u8]
         ensures bytes { result.now ≡ drop offset self.now.bytes }
         ensures end { offset + length result.now < 2 ^ 64 }
@@ -67,6 +71,7 @@ impl MemoryFile {
         self.bytes().get(offset..).unwrap_or(&[])
     }
 
+    /// Removes all bytes, and marks the file as begun.
     fn clear(&mut self)
         ensures { self.new ≡ record { name = self.old.name; bytes = []; begun = true } }
     {
@@ -74,6 +79,7 @@ impl MemoryFile {
         self.begun = true;
     }
 
+    /// Appends these bytes. The only error is out of memory, which leaves the file as it was.
     fn append(&mut self, bytes: &[u8]) -> Result<(), AllocError>
         ensures ok { OnOk result (self.new
             ≡ record self.old { bytes = self.old.bytes ++ bytes.now }) }
@@ -94,8 +100,8 @@ fn held_files(alloc: Global, files: Vec<(String, Vec<u8>)>) -> Result<Vec<Memory
         .collect(alloc)
 }
 
-/// The place of the file of this name.
-fn place_of(files: &[MemoryFile], name: &str) -> Option<usize>
+/// The index of the file of this name.
+fn file_index(files: &[MemoryFile], name: &str) -> Option<usize>
     ensures { MatchOption result (file_of files.now name.now ≡ None)
         (λ place. (place < length files.now)
         × ((file : File) → (slice_index_or files.now place file).name ≡ name.now)) }
@@ -108,7 +114,7 @@ fn place_of(files: &[MemoryFile], name: &str) -> Option<usize>
     None
 }
 
-/// Makes an empty file of this name, in place of one that is there, and gives its place.
+/// Makes an empty file of this name, and gives its index. It replaces a file of that name.
 fn begin(files: &mut Vec<MemoryFile>, name: &str) -> Result<usize, AllocError>
     requires { NamesDiffer files.old.items }
     ensures made { OnOk result (files.new.items
@@ -121,7 +127,7 @@ fn begin(files: &mut Vec<MemoryFile>, name: &str) -> Result<usize, AllocError>
     ensures names_stay { (place : ℕ) → place < length files.old.items
         → name_at files.new.items place ≡ name_at files.old.items place }
 {
-    if let Some(place) = place_of(files.as_slice(), name) {
+    if let Some(place) = file_index(files.as_slice(), name) {
         files[place].clear();
         return Ok(place);
     }
@@ -131,7 +137,7 @@ fn begin(files: &mut Vec<MemoryFile>, name: &str) -> Result<usize, AllocError>
     Ok(files.len() - 1)
 }
 
-/// Appends the bytes to the file at this place.
+/// Appends the bytes to the file at this index.
 fn append_to(files: &mut Vec<MemoryFile>, place: usize, bytes: &[u8]) -> Result<(), AllocError>
     requires differ { NamesDiffer files.old.items }
     requires within { place < length files.old.items }
@@ -147,7 +153,7 @@ fn append_to(files: &mut Vec<MemoryFile>, place: usize, bytes: &[u8]) -> Result<
     Ok(())
 }
 
-/// Copies as much of the front of `from` as there is and fits, and at most `most` bytes.
+/// Copies as many bytes of the front of `from` as there are, as fit into `into`, and at most `most`.
 fn copy_front(from: &[u8], into: &mut [u8], most: usize) -> usize
     ensures count { result ≡ length (take (min most (length into.old)) from.now) }
     ensures within { result ≤ length from.now }
@@ -158,7 +164,7 @@ fn copy_front(from: &[u8], into: &mut [u8], most: usize) -> usize
     count
 }
 
-/// Counts a call, and says whether it is one of those that fail.
+/// Counts a call, and tells whether it is one that fails.
 fn count_call(calls: &mut u64, fails: &[u64]) -> bool
     ensures counted { calls.new ≡ raised calls.old 1 }
     ensures fails { result ≡ list_any (λ number. number == calls.old) fails.now }
@@ -168,17 +174,17 @@ fn count_call(calls: &mut u64, fails: &[u64]) -> bool
     fails_now
 }
 
-/// The file that is being read, by its place in the list, and how many of its bytes were given.
+/// The file that is being read, by its index in the list, and how many of its bytes were given.
 #[derive(Clone, Copy, Debug)]
 struct ReadPosition {
     file: usize,
     offset: usize,
 }
 
-/// A world in memory that fails where it is told to, for tests. It tells everything.
+/// A world in memory, for tests, in which chosen calls fail. It tells everything.
 ///
-/// A file that is begun is held from then on as it is kept. What is kept is told of the files that were
-/// begun. The file being read goes on at its place in it, also where it is begun or added to meanwhile.
+/// A file that was begun is held as it is kept, and what is kept is told of these files alone. Reading goes
+/// on at the same byte if the file is begun or added to meanwhile.
 #[derive(Debug)]
 pub struct MemoryWorld {
     files: Vec<MemoryFile>,
@@ -243,12 +249,12 @@ impl Model for MemoryWorld {
 }
 
 impl MemoryWorld {
-    /// A world with these files, whose names differ, that gives at most `piece` bytes at a time, at least 1.
+    /// A world with these files, whose names differ. It gives at most `piece` bytes at a time, at least 1.
     ///
-    /// Its calls of [`World`] are numbered from 0, and those whose number is in `fails` fail: with nothing
-    /// done but that a file being read or begun is given up, and that `add` and `print` take the first half
-    /// of their bytes, rounded down. Only they are counted as faults: opening a file that isn't held is
-    /// answered `Failed` too. The one error is want of memory.
+    /// Its calls of [`World`] are numbered from 0, and those whose number is in `fails` fail. Such a call
+    /// only gives up the file being read or begun. A failing `add` or `print` takes the first half of its
+    /// bytes, rounded down. Only these calls count as faults: to open a file that isn't held also answers
+    /// `Failed`. The only error is out of memory.
     pub fn new(
         alloc: Global,
         files: Vec<(String, Vec<u8>)>,
@@ -277,11 +283,11 @@ impl MemoryWorld {
         })
     }
 
-    /// The bytes held under a name, or `None` exactly where no such file is held. It takes no memory.
+    /// The bytes held under a name, or `None` exactly if no such file is held. It takes no memory.
     pub fn file(&self, name: &str) -> Option<&[u8]>
         ensures { Some (option_copied result) ≡ held_in self.now.files name.now }
     {
-        let place = place_of(self.files.as_slice(), name)?;
+        let place = file_index(self.files.as_slice(), name)?;
         Some(self.files[place].bytes())
     }
 
@@ -305,7 +311,7 @@ impl World for MemoryWorld {
             raise(&mut self.read_faults, 1);
             return Err(WorldError::Failed);
         }
-        match place_of(self.files.as_slice(), name) {
+        match file_index(self.files.as_slice(), name) {
             None => Err(WorldError::Failed),
             Some(file) => {
                 self.reading = Some(ReadPosition { file, offset: 0 });

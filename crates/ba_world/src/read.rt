@@ -50,11 +50,12 @@ impl From<WorldError> for ReadFileError {
 /// How many bytes are read at a time.
 const BUFFER: usize = 4096;
 
-/// Reads the file of this name from its first byte to its last, if it has at most `limit` bytes, which are
-/// at most 65,536. It stops as soon as more have come, and at a fault.
+/// Reads the file of this name whole, if it has at most `limit` bytes (65,536 or fewer). It stops at a fault,
+/// or as soon as more bytes have come.
 ///
-/// `Failed` comes only where a fault of reading rose in this call or there is no such file, `TooLong`
-/// exactly where more than `limit` bytes were given in this call.
+/// - [`ReadFileError::Failed`]: only if a fault of reading rose in this call, or there is no such file.
+/// - [`ReadFileError::TooLong`]: exactly if more than `limit` bytes were given in this call.
+/// - [`ReadFileError::Memory`]: out of memory.
 pub fn read_whole<W: World>(
     alloc: Global,
     world: &mut W,
@@ -70,7 +71,7 @@ pub fn read_whole<W: World>(
         → HasReadFault (W.outside world.old) (W.outside world.new)
         ⊎ ((W.outside world.old).held name.now ≡ Some None) }
 
-    // After a failure the world shows whether it was in opening the file or in reading it.
+    // After a failure the world shows whether it came in opening the file or in reading it.
     ensures stopped { result ≡ Err ReadFileError.Failed
         → Stopped name.now limit (W.outside world.old) (W.outside world.new) }
 

@@ -1,4 +1,4 @@
-//! What the program meets of the outside.
+//! The trait by which the program meets the outside.
 
 ghost use Rattle.std.specs.Prelude.{◌≡◌, ◌⊎◌, ◌<◌, ◌≤◌, true, false, length, IfOk, OnOk, OnErr};
 ghost use Rattle.ba_world.specs.World.{Adds, AddsPrefix, GivesNone, GivesPiece, HasPrintShortage, HasReadFault, HasWriteFault, IsBegun, IsOpened, OnlyPrints, OnlyReads, OnlyWrites, OthersStay, Outside, Prints, PrintsPrefix, StillWrites, WritesNone, raised};
@@ -28,20 +28,23 @@ impl From<AllocError> for WorldError {
     }
 }
 
-/// Files that are read and written one piece at a time, and an output that is printed to.
+/// Files that are read and written one piece at a time, and an output for printing.
 ///
-/// At most one file is being read and at most one is being written. Names and contents are bytes. A world
-/// may tell of them or not: what it doesn't tell is `None`.
+/// At most one file is being read and at most one is being written. Names and contents are bytes. A world may
+/// tell of them or not: what it doesn't tell is `None`.
 ///
-/// Each call may answer [`WorldError::Memory`]. It answers [`WorldError::Failed`] only where the count of
-/// faults of its kind rose in it or, for `open_file`, where there is no file of that name. Where `print` answers
-/// `Memory`, the count of prints that found no memory rose in it. A count that has come to 2^64 - 1 counts as risen.
+/// - [`WorldError::Memory`]: any call may answer it. In `print` the count of prints that found no memory
+///   rises with it.
+/// - [`WorldError::Failed`]: only if the count of faults of its kind rose in this call, or `open_file` finds
+///   no file of that name.
+///
+/// A count at its end, 2^64 - 1, counts as risen.
 pub trait World {
     // The outside, as far as this world tells it.
     ghost outside: { Self → Outside };
 
-    /// Makes the file of this name the one that is read, from its first byte on. One that was being read
-    /// is given up. After a refusal no file is being read.
+    /// Opens the file of this name, to be read from its first byte on. A file that was being read is given
+    /// up. After a refusal no file is being read.
     fn open_file(&mut self, name: &str) -> Result<(), WorldError>
         ensures opened { OnOk result (IsOpened name.now (outside self.old) (outside self.new)) }
         ensures refused { OnErr result ((outside self.new).is_reading ≡ false) }
@@ -51,8 +54,8 @@ pub trait World {
         ensures none_given { (outside self.new).given ≡ (outside self.old).given }
         ensures stays { OnlyReads (outside self.old) (outside self.new) };
 
-    /// Puts the next bytes of the file being read at the front of `into`, and answers how many: 0 exactly
-    /// where nothing is left. A refusal gives none. The file goes on being read.
+    /// Puts the next bytes of the file being read at the front of `into`, and answers how many. That is 0
+    /// exactly if nothing is left. A refusal gives no byte, and the file goes on being read.
     fn next_piece(&mut self, into: &mut [u8]) -> Result<usize, WorldError>
         requires room { 0 < length into.old }
         requires reading { (outside self.old).is_reading ≡ true }
@@ -64,9 +67,9 @@ pub trait World {
         ensures still { (outside self.new).is_reading ≡ true }
         ensures stays { OnlyReads (outside self.old) (outside self.new) };
 
-    /// Makes an empty file of this name, in place of one that is there. It is the one that is written from
-    /// here on. After a refusal no file is being written, and what is kept under this name is as it
-    /// was, or nothing.
+    /// Makes an empty file of this name, which is the one that is written from now on. It replaces a file of
+    /// that name. After a refusal no file is being written, and what is kept under this name is as it was, or
+    /// nothing.
     fn begin_file(&mut self, name: &str) -> Result<(), WorldError>
         ensures begun { OnOk result (IsBegun name.now (outside self.new)) }
         ensures refused { OnErr result (WritesNone name.now (outside self.old) (outside self.new)) }
@@ -85,7 +88,7 @@ pub trait World {
         ensures others { StillWrites (outside self.old) (outside self.new) }
         ensures stays { OnlyWrites (outside self.old) (outside self.new) };
 
-    /// Prints the bytes after all that was printed before. A refusal prints some prefix of them.
+    /// Prints the bytes. A refusal prints some prefix of them.
     fn print(&mut self, bytes: &[u8]) -> Result<(), WorldError>
         ensures printed { OnOk result (Prints (outside self.old) (outside self.new) bytes.now) }
         ensures prefix { PrintsPrefix (outside self.old) (outside self.new) bytes.now }
@@ -96,7 +99,7 @@ pub trait World {
         ensures stays { OnlyPrints (outside self.old) (outside self.new) };
 }
 
-/// Raises a count, which stands still at its type's end.
+/// Raises a count, which stays at its type's end.
 pub(crate) fn raise(count: &mut u64, by: usize)
     ensures raised { count.new ≡ raised count.old by }
     ensures no_fall { count.old ≤ count.new }

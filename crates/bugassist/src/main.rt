@@ -4,6 +4,7 @@
 use ba_tool::entry::{exit_code, run};
 use std::process::ExitCode;
 
+/// Calls the tool with the words of the command line, and ends with the number of its status.
 fn main(rt: HostRuntime) -> ExitCode {
     exit_code(run(&rt))
 }

@@ -14,8 +14,8 @@ use Rattle.ba_derivations.specs.Handing.{Derivation}
 use Rattle.ba_tree.specs.declared.tree.Program.{Program}
 use Rattle.ba_tree_laws.specs.Spelling.{Spells}
 use Rattle.ba_world.specs.World.{HasReadFault, Outside}
-use Rattle.mode_check.specs.Certificates.{CertificateComesTo, Judging}
-use Rattle.mode_check.specs.Checks.{IsAnswer, IsEndOfCheck, accepted, by_certificate, judging, not_there, refused, too_long}
+use Rattle.mode_check.specs.Certificates.{CertificateComesTo, Checking}
+use Rattle.mode_check.specs.Checks.{IsAnswer, IsEndOfCheck, accepted, by_certificate, checking, not_there, refused, too_long}
 use Rattle.mode_check.specs.Checks as checks
 use Rattle.mode_check.specs.declared.jobs.CheckJob.{CheckJob}
 
@@ -44,7 +44,7 @@ abbrev pub EndsCheck : Option (List ℕ) → Outside → Outside → Status → 
 EndsCheck told before after end =
     IsEndOfCheck told end ⊎ ((end ≡ status.ReadFault) × HasReadFault before after)
 
-module _ (told : Option (List ℕ)) (j : Judging) (before after : Outside)
+module _ (told : Option (List ℕ)) (j : Checking) (before after : Outside)
     (held : before.held j.name ≡ Some told) where
   ends_told : (text : List ℕ) (end : Status) → told ≡ Some text → IsEndOfCheck (Some text) end →
       EndsCheck told before after end
@@ -102,7 +102,7 @@ module _ (told : Option (List ℕ)) (j : Judging) (before after : Outside)
   certificate_ends (answer.BudgetSpent conflicts line) is = absurd is
   certificate_ends (answer.BadWeights line) is = absurd is
 
--- where the program of the texts has no answer at once, its check ends so
+-- if the program of the texts has no answer at once, its check ends so
 module _ (j : CheckJob) (x : Texts) (p : Program) (spells : Spells x.program p)
     (undecided : case_answer j.bounds x p ≡ None) where
   pub check_told : (told : Option (List ℕ)) (before after : Outside) (handed : List Derivation) (a : Answer) →
@@ -111,5 +111,5 @@ module _ (j : CheckJob) (x : Texts) (p : Program) (spells : Spells x.program p)
   check_told told before after handed a held (checks.IsAnswer.at_once is none same) =
       absurd (none_or_one x.program (case_answer j.bounds x) (case_of_meaning j.bounds x) p a spells undecided
       is)
-  check_told told before after handed a held (by_certificate q spelled none judged) =
-      certificate_ends told (judging j x q judged.over) before after held a judged.comes
+  check_told told before after handed a held (by_certificate q spelled none checked) =
+      certificate_ends told (checking j x q checked.over) before after held a checked.comes

@@ -28,7 +28,7 @@ use Rattle.ba_steps.specs.declared.sink.SinkError.TheVariants as refusal
 use Rattle.ba_tree.specs.Least.{WeightList, judge_of}
 use Rattle.ba_tree.specs.declared.run.Input.{Input}
 use Rattle.ba_world.specs.World.{OnlyReads, Outside}
-use Rattle.mode_check.specs.Certificates.{CertificateComesTo, Judging}
+use Rattle.mode_check.specs.Certificates.{CertificateComesTo, Checking}
 use Rattle.mode_check.specs.Checks.{Concludes, IsAnswer, MayHandFormula, Stops, TextsEnd, judge_in}
 use Rattle.mode_check.specs.Checks as checks
 use Rattle.mode_check.specs.Jobs.{head_by}
@@ -41,9 +41,9 @@ settings_of j = record { bounds = j.bounds; conflicts = j.conflicts; sets = j.se
 abbrev handed_of : Cnf → List Soft → Derivation
 handed_of formula softs = record { begun = basis formula softs; steps = [] }
 
--- what is judged over an encoding
-abbrev pub judging_over : CheckJob → Texts → Case → Encoded → Judging
-judging_over j x c encoded = record {
+-- what is checked over an encoding
+abbrev pub checking_over : CheckJob → Texts → Case → Encoded → Checking
+checking_over j x c encoded = record {
   name = j.cert;
   head = head_by j;
   problem = problem_over c.program c.input (settings_of j) encoded;
@@ -79,7 +79,7 @@ outlasts_same t = record { no_fall = omega arith; same_references = refl }
 pub stops_at_once : (j : CheckJob) (x : Texts) (o : Outside) (t : Told) → Stops j x o o t t
 stops_at_once j x o t = checks.Stops.at_once refl (refl, refl)
 
--- by an answer, or for want of memory
+-- by an answer, or if memory runs out
 pub stopped_ends : (j : CheckJob) (x : Texts) (o : Outside) (t : Told) (why : Stop)
     (result : Result Answer SearchError) → IsStopped x.program (case_answer j.bounds x) why →
     IsAnswered why result → TextsEnd j x o o t t result
@@ -160,7 +160,7 @@ module _ (j : CheckJob) (x : Texts) (c : Case) (is : IsCaseOf j.bounds x c) (enc
       by (inr told) = inr (basis formula softs, faithful_too, told)
 
     concludes : (a : Answer) → u.over ≡ with_told (basis formula softs) t.over →
-        CertificateComesTo (judging_over j x c encoded) a before after → Concludes j x before after t u a
+        CertificateComesTo (checking_over j x c encoded) a before after → Concludes j x before after t u a
     concludes a over comes = record {
       handed = handed_of formula softs ∷ [];
       is = checks.by_certificate c.program is.spells is.undecided (record {
@@ -178,7 +178,7 @@ module _ (j : CheckJob) (x : Texts) (c : Case) (is : IsCaseOf j.bounds x c) (enc
     -- the certificate comes to the answer
     pub check_ends : OnlyReads before after → Outlasts t u → (a : Answer) →
         u.over ≡ with_told (basis formula softs) t.over →
-        CertificateComesTo (judging_over j x c encoded) a before after →
+        CertificateComesTo (checking_over j x c encoded) a before after →
         TextsEnd j x before after t u (Ok a)
     check_ends only outlasts a over comes = record {
       answer = concludes a over comes;

@@ -19,7 +19,7 @@ use Rattle.ba_world.specs.declared.read.ReadFileError.TheVariants as read
 use Rattle.ba_world.specs.declared.world.WorldError.{WorldError}
 use Rattle.ba_world.specs.declared.world.WorldError.TheVariants as world
 use Rattle.ba_world.proofs.WholeReads.{read_on, rose_since}
-use Rattle.mode_check.specs.Certificates.{CertificateComesTo, EndsRefused, IsAccepted, IsFed, IsUnfed, Judging, StopsRefused, StopsTooLong, StopsUnread, claim_of, unfed_answer}
+use Rattle.mode_check.specs.Certificates.{CertificateComesTo, EndsRefused, IsAccepted, IsFed, IsUnfed, Checking, StopsRefused, StopsTooLong, StopsUnread, claim_of, unfed_answer}
 use Rattle.ba_answers.specs.Limits.{certificate_limit}
 use Rattle.ba_answers.specs.declared.answers.Answer.{Answer}
 use Rattle.ba_answers.specs.declared.answers.Answer.TheVariants as answer
@@ -111,7 +111,8 @@ whole_by name bytes buffer old mid new read piece reading = record {
       piece.counted;
 }
 
-pub feeding_ends : (j : Judging) (name : Word) (first reader : Confirming) (buffer : List ℕ) (count given : ℕ)
+pub feeding_ends : (j : Checking) (name : Word) (first reader : Confirming) (buffer : List ℕ)
+    (count given : ℕ)
     (old mid new : Outside) → j.name ≡ name → HasRead j.head j.problem [] first →
     IsFeeding name first reader old mid given → given ≤ certificate_limit → count ≡ 0 →
     GivesPiece count buffer mid new → new.is_reading ≡ true → IsFed j old new reader
@@ -127,7 +128,7 @@ feeding_ends j name first reader buffer count given old mid new named has f few 
 
 -- or it stops: a fault rose; more bytes than the limit came; or a line of the piece is refused
 
-pub feeding_faults : (j : Judging) (name : Word) (first reader : Confirming) (given : ℕ) (old mid new :
+pub feeding_faults : (j : Checking) (name : Word) (first reader : Confirming) (given : ℕ) (old mid new :
     Outside) →
     j.name ≡ name → HasRead j.head j.problem [] first → IsFeeding name first reader old mid given →
     given ≤ certificate_limit → GivesNone mid new → new.is_reading ≡ true → HasReadFault mid new →
@@ -145,7 +146,7 @@ feeding_faults j name first reader given old mid new named has f few none readin
   cause = rose_since old.read_faults mid.read_faults new.read_faults later rose;
 }
 
-pub feeding_passes : (j : Judging) (name : Word) (first reader : Confirming) (buffer : List ℕ)
+pub feeding_passes : (j : Checking) (name : Word) (first reader : Confirming) (buffer : List ℕ)
     (count given : ℕ)
     (old mid new : Outside) → j.name ≡ name → HasRead j.head j.problem [] first →
     IsFeeding name first reader old mid given → given ≤ certificate_limit →
@@ -166,7 +167,7 @@ feeding_passes j name first reader buffer count given old mid new named has f fe
           let t = length-take-le count buffer piece.within in omega (arith, e, n, t, more);
     }
 
-pub feeding_refuses : (j : Judging) (name : Word) (first reader : Confirming) (buffer : List ℕ)
+pub feeding_refuses : (j : Checking) (name : Word) (first reader : Confirming) (buffer : List ℕ)
     (count given line code : ℕ) (old mid new : Outside) → j.name ≡ name → HasRead j.head j.problem [] first →
     IsFeeding name first reader old mid given → given + count ≤ certificate_limit →
     length buffer ≡ piece_size → GivesPiece count buffer mid new → new.is_reading ≡ true →
@@ -188,7 +189,8 @@ feeding_refuses j name first reader buffer count given line code old mid new nam
     }
 
 -- what an error of reading comes to, and one of the reader
-pub feeding_errs : (j : Judging) (name : Word) (first reader : Confirming) (given : ℕ) (old mid new : Outside)
+pub feeding_errs : (j : Checking) (name : Word) (first reader : Confirming) (given : ℕ) (old mid new :
+    Outside)
     (cause : WorldError) (result : Result ℕ WorldError) → j.name ≡ name → HasRead j.head j.problem [] first →
     IsFeeding name first reader old mid given → given ≤ certificate_limit → GivesNone mid new →
     new.is_reading ≡ true → result ≡ Err cause → (result ≡ Err world.Failed → HasReadFault mid new) →
@@ -199,7 +201,7 @@ feeding_errs j name first reader given old mid new world.Failed result named has
 feeding_errs j name first reader given old mid new world.Memory result named has f few none reading is rose
     later = tt
 
-pub feeding_stops : (j : Judging) (name : Word) (first reader : Confirming) (buffer : List ℕ)
+pub feeding_stops : (j : Checking) (name : Word) (first reader : Confirming) (buffer : List ℕ)
     (count given : ℕ)
     (old mid new : Outside) (error : CheckError) → j.name ≡ name → HasRead j.head j.problem [] first →
     IsFeeding name first reader old mid given → given + count ≤ certificate_limit →
@@ -217,7 +219,7 @@ feeding_stops j name first reader buffer count given old mid new Memory named ha
     tt
 
 -- the error that a call ends with
-pub unfed_by : (j : Judging) (result : Result Unit Unfed) (why : Unfed) (old new : Outside) →
+pub unfed_by : (j : Checking) (result : Result Unit Unfed) (why : Unfed) (old new : Outside) →
     IsErrAnd result (λ error. error ≡ why) → IsUnfed j why old new →
     IfErr result (λ error. IsUnfed j error old new)
 unfed_by j (Ok value) why old new is unfed = tt
@@ -225,7 +227,7 @@ unfed_by j (Err error) why old new is unfed = subst (λ error. IsUnfed j error o
 
 -- THE ANSWER of a certificate
 
-pub accepted_by : (j : Judging) (old new : Outside) (reader : Confirming) (confirmed : Confirmed)
+pub accepted_by : (j : Checking) (old new : Outside) (reader : Confirming) (confirmed : Confirmed)
     (claimed : Claim) (fed : IsFed j old new reader) →
     Tells (Ok confirmed) (finding_of j.head j.problem fed.text) →
     IsTrueOf j.weights j.head j.problem fed.text confirmed →
@@ -245,7 +247,7 @@ accepted_by j old new reader confirmed claimed fed tells holds claims =
       }
       by (Refused line code) found is = absurd is
 
-pub refused_by : (j : Judging) (line code : ℕ) (old new : Outside) (reader : Confirming)
+pub refused_by : (j : Checking) (line code : ℕ) (old new : Outside) (reader : Confirming)
     (fed : IsFed j old new reader) → Tells (Err (Line line code)) (finding_of j.head j.problem fed.text) →
     EndsRefused j line code old new
 refused_by j line code old new reader fed tells =
@@ -257,7 +259,7 @@ refused_by j line code old new reader fed tells =
       found = tells;
     }
 
-pub unfed_comes : (j : Judging) (why : Unfed) (a : Answer) (old new : Outside) → IsUnfed j why old new →
+pub unfed_comes : (j : Checking) (why : Unfed) (a : Answer) (old new : Outside) → IsUnfed j why old new →
     unfed_answer why ≡ Some a → CertificateComesTo j a old new
 unfed_comes j (unfed.Unread read.Failed) a old new is told =
     let same : answer.Unreadable file.Certificate ≡ a = cc in

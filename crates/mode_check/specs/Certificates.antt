@@ -1,4 +1,4 @@
--- WHAT A CERTIFICATE COMES TO that is read from a file in pieces, where it is judged as it is read.
+-- THE ANSWERS OF A CERTIFICATE that is checked as it is read, in pieces.
 
 use Rattle.std.specs.Prelude.{◌≡◌, ◌⊎◌, ℕ, ◌<◌, ◌≤◌, Option, None, Some, List, ◌++◌, length}
 use Rattle.ba_cert.specs.declared.head.CertHead.{CertHead}
@@ -21,22 +21,24 @@ use Rattle.mode_check.specs.declared.certificates.Unfed.{Unfed}
 use Rattle.mode_check.specs.declared.certificates.Unfed.TheVariants as unfed
 use Rattle.ba_answers.specs.declared.file.File.TheVariants as file
 
--- what is to be judged: the file of this name, by these settings, on this problem, where the statements weigh so
-pub record Judging : Type 0 where
+-- the certificate to be checked: the file of this name, by these settings, on this problem, with these
+-- weights
+pub record Checking : Type 0 where
   pub name : Word
   pub head : CertHead
   pub problem : Problem
   pub weights : WeightList
 
--- what a certificate of a verdict claims
+-- the claim of a certificate of this verdict
 abbrev pub claim_of : Verdict → Claim
 claim_of (Located weight sets) = claim.Located
 claim_of NoRepair = claim.NoRepair
 claim_of (TooMany weight sets) = claim.TooManySets
 claim_of Spent = claim.BudgetSpent
 
--- IT IS ACCEPTED: the file was read to its end. Its bytes are the text of steps that derive a verdict, which is true
-pub record IsAccepted (j : Judging) (claimed : Claim) (old new : Outside) : Type 0 where
+-- IT IS ACCEPTED: the file was read to its end. Its bytes are the text of steps that derive a verdict, which
+-- is true.
+pub record IsAccepted (j : Checking) (claimed : Claim) (old new : Outside) : Type 0 where
   pub text : List ℕ
   pub whole : IsReadWhole j.name text old new
   pub short : length text ≤ certificate_limit
@@ -45,8 +47,8 @@ pub record IsAccepted (j : Judging) (claimed : Claim) (old new : Outside) : Type
   pub holds : IsTrueOf j.weights j.head j.problem text (confirmed_of verdict)
   pub claims : claimed ≡ claim_of verdict
 
--- IT IS REFUSED: with the piece in which its first refused line ends no more was read
-pub record StopsRefused (j : Judging) (line code : ℕ) (old new : Outside) : Type 0 where
+-- IT IS REFUSED: nothing was read after the piece in which its first refused line ends
+pub record StopsRefused (j : Checking) (line code : ℕ) (old new : Outside) : Type 0 where
   pub text : List ℕ
   pub piece : List ℕ
   pub read : IsReadTo j.name (text ++ piece) old new
@@ -56,23 +58,23 @@ pub record StopsRefused (j : Judging) (line code : ℕ) (old new : Outside) : Ty
   pub refused : first_refused j.head j.problem (text ++ piece) ≡ Some (line, code)
 
 -- or the file was read to its end, which comes too early, and none of its whole lines is refused
-pub record EndsRefused (j : Judging) (line code : ℕ) (old new : Outside) : Type 0 where
+pub record EndsRefused (j : Checking) (line code : ℕ) (old new : Outside) : Type 0 where
   pub text : List ℕ
   pub whole : IsReadWhole j.name text old new
   pub short : length text ≤ certificate_limit
   pub unrefused : first_refused j.head j.problem text ≡ None
   pub found : finding_of j.head j.problem text ≡ Refused line code
 
--- IT CAN'T BE READ to its end or a refused line: a fault rose, when no line that had come was refused
-pub record StopsUnread (j : Judging) (old new : Outside) : Type 0 where
+-- IT CAN'T BE READ to its end or a refused line: a fault rose, and no line that had come was refused
+pub record StopsUnread (j : Checking) (old new : Outside) : Type 0 where
   pub text : List ℕ
   pub read : IsReadTo j.name text old new
   pub short : length text ≤ certificate_limit
   pub unrefused : first_refused j.head j.problem text ≡ None
   pub cause : HasReadFault old new
 
--- IT IS TOO LONG: no line is refused of the bytes before the piece by which more than the limit came
-pub record StopsTooLong (j : Judging) (old new : Outside) : Type 0 where
+-- IT IS TOO LONG: no line is refused of the bytes before the piece that passed the limit
+pub record StopsTooLong (j : Checking) (old new : Outside) : Type 0 where
   pub text : List ℕ
   pub piece : List ℕ
   pub read : IsReadTo j.name (text ++ piece) old new
@@ -82,7 +84,7 @@ pub record StopsTooLong (j : Judging) (old new : Outside) : Type 0 where
   pub long : certificate_limit < length (text ++ piece)
 
 -- THE ANSWERS of a certificate
-abbrev pub CertificateComesTo : Judging → Answer → Outside → Outside → Type 0
+abbrev pub CertificateComesTo : Checking → Answer → Outside → Outside → Type 0
 CertificateComesTo j (answer.Accepted claimed) old new = IsAccepted j claimed old new
 CertificateComesTo j (answer.BadCertificate code line) old new =
     StopsRefused j line code old new ⊎ EndsRefused j line code old new
@@ -91,23 +93,23 @@ CertificateComesTo j (answer.Unreadable file.Certificate) old new =
 CertificateComesTo j (answer.TooLong file.Certificate) old new = StopsTooLong j old new
 CertificateComesTo j _ old new = ⊥
 
--- A READER of certificates that had read nothing was fed the file to its end, and refused no line
-pub record IsFed (j : Judging) (old new : Outside) (reader : Confirming) : Type 0 where
+-- A READER of certificates that had read nothing was given the file to its end, and refused no line
+pub record IsFed (j : Checking) (old new : Outside) (reader : Confirming) : Type 0 where
   pub text : List ℕ
   pub whole : IsReadWhole j.name text old new
   pub short : length text ≤ certificate_limit
   pub unrefused : first_refused j.head j.problem text ≡ None
   pub read : HasRead j.head j.problem text reader
 
--- or it wasn't, for this reason; want of memory tells nothing
-abbrev pub IsUnfed : Judging → Unfed → Outside → Outside → Type 0
+-- or it wasn't, for this reason; out of memory says nothing
+abbrev pub IsUnfed : Checking → Unfed → Outside → Outside → Type 0
 IsUnfed j (unfed.Unread read.Failed) old new = StoppedInOpening j.name old new ⊎ StopsUnread j old new
 IsUnfed j (unfed.Unread read.TooLong) old new = StopsTooLong j old new
 IsUnfed j (unfed.Unread read.Memory) old new = Unit {0}
 IsUnfed j (unfed.Refused (refusal.Line line code)) old new = StopsRefused j line code old new
 IsUnfed j (unfed.Refused refusal.Memory) old new = Unit {0}
 
--- the answer then; none for want of memory
+-- the answer for this reason; none if memory ran out
 abbrev pub unfed_answer : Unfed → Option Answer
 unfed_answer (unfed.Unread read.Failed) = Some (answer.Unreadable file.Certificate)
 unfed_answer (unfed.Unread read.TooLong) = Some (answer.TooLong file.Certificate)

@@ -1,4 +1,4 @@
--- A CERTIFICATE THAT IS TO BE CHECKED.
+-- JOBS of checking a certificate.
 
 use Rattle.std.specs.Prelude.{List}
 use Rattle.ba_answers.specs.declared.file.File.TheVariants as file
@@ -11,6 +11,6 @@ use Rattle.mode_check.specs.declared.jobs.CheckJob.{CheckJob}
 abbrev pub files_of : CheckJob → List Named
 files_of j = files_for j.program file.Input j.input j.weights
 
--- its settings, as a certificate names them
+-- the settings of a job, as a certificate has them
 abbrev pub head_by : CheckJob → CertHead
 head_by j = record { bounds = j.bounds; conflicts = j.conflicts; sets = j.sets }

@@ -1,4 +1,4 @@
-//! The certificate of a check, judged as it is read.
+//! The certificate of a check, read in pieces.
 
 ghost use Rattle.std.specs.Prelude.{◌≡◌, ◌≤◌, ◌+◌, [], true, IfOk, IfErr};
 ghost use Rattle.ba_check.specs.Answers.{confirmed_of};
@@ -10,7 +10,7 @@ ghost use Rattle.ba_world.specs.Read.{piece_size};
 ghost use Rattle.ba_world.specs.World.{OnlyReads, Outside};
 ghost use Rattle.ba_cases.specs.Cases.{IsCaseOf};
 ghost use Rattle.ba_cases.specs.Reading.{AreShort};
-ghost use Rattle.mode_check.specs.Certificates.{CertificateComesTo, IsFed, IsUnfed, Judging, claim_of, unfed_answer};
+ghost use Rattle.mode_check.specs.Certificates.{CertificateComesTo, IsFed, IsUnfed, Checking, claim_of, unfed_answer};
 ghost use Rattle.ba_answers.specs.Limits.{certificate_limit};
 ghost use Rattle.ba_files.specs.Files.{GivesAtMost};
 ghost use Rattle.ba_tree.specs.Least.{AreWeightsOf};
@@ -64,14 +64,14 @@ impl From<CheckError> for Unfed {
 /// How many bytes are read at a time.
 const BUFFER: usize = 4096;
 
-/// Feeds the file of this name to a reader of certificates that has read nothing. It stops at the end, or with the
-/// piece in which the first refused line ends.
+/// Gives the file of this name to a reader of certificates that has read nothing. It stops at the end, or
+/// with the piece in which the first refused line ends.
 fn feed_file<W: World>(world: &mut W, name: &str, confirm: &mut Confirm) -> Result<(), Unfed>
-    ensures fed { (j : Judging) → j.name ≡ name.now
+    ensures fed { (j : Checking) → j.name ≡ name.now
         → HasRead j.head j.problem [] (seen confirm.old)
         → IfOk result
         (λ _. IsFed j (W.outside world.old) (W.outside world.new) (seen confirm.new)) }
-    ensures unfed { (j : Judging) → j.name ≡ name.now
+    ensures unfed { (j : Checking) → j.name ≡ name.now
         → HasRead j.head j.problem [] (seen confirm.old)
         → IfErr result (λ unfed. IsUnfed j unfed (W.outside world.old) (W.outside world.new)) }
     ensures bounded { (W.outside world.new).given
@@ -94,7 +94,7 @@ fn feed_file<W: World>(world: &mut W, name: &str, confirm: &mut Confirm) -> Resu
     }
 }
 
-/// The answer where a certificate wasn't read to its end; none for want of memory.
+/// The answer for a certificate that wasn't read to its end; none if memory ran out.
 fn unfed_answer(unfed: Unfed) -> Option<Answer>
     ensures { result ≡ unfed_answer unfed }
 {
@@ -108,7 +108,7 @@ fn unfed_answer(unfed: Unfed) -> Option<Answer>
     }
 }
 
-/// What a certificate claims that says this.
+/// The claim of a certificate that says this.
 fn claim_of(confirmed: &Confirmed) -> Claim
     ensures { (verdict : Verdict) → confirmed.now ≡ confirmed_of verdict
         → result ≡ claim_of verdict }
@@ -123,9 +123,9 @@ fn claim_of(confirmed: &Confirmed) -> Claim
 
 /// The answer of a certificate that was read to its end.
 ///
-/// The one error is want of memory.
+/// The only error is out of memory.
 fn read_answer(confirm: Confirm) -> Result<Answer, AllocError>
-    ensures { (j : Judging) (old new : Outside) → IsFed j old new (seen confirm.entry)
+    ensures { (j : Checking) (old new : Outside) → IsFed j old new (seen confirm.entry)
         → IsFaithful j.problem.formula j.problem.softs j.weights j.problem.good
         → IfOk result (λ answer. CertificateComesTo j answer old new) }
 {
@@ -138,13 +138,13 @@ fn read_answer(confirm: Confirm) -> Result<Answer, AllocError>
 
 /// The answer of the certificate in the file of this name, by a reader that has read nothing.
 ///
-/// The one error is want of memory.
+/// The only error is out of memory.
 fn file_answer<W: World>(
     world: &mut W,
     name: &str,
     mut confirm: Confirm,
 ) -> Result<Answer, AllocError>
-    ensures answer { (j : Judging) → j.name ≡ name.now
+    ensures answer { (j : Checking) → j.name ≡ name.now
         → HasRead j.head j.problem [] (seen confirm.entry)
         → IsFaithful j.problem.formula j.problem.softs j.weights j.problem.good
         → IfOk result (λ answer. CertificateComesTo j answer
@@ -162,10 +162,11 @@ fn file_answer<W: World>(
     }
 }
 
-/// What the certificate of a job says of a case. The formula of the case is made and handed to `steps`, and no step.
-/// Then the file is read in pieces. It is judged over this formula, up to its first refused line.
+/// The answer of a job's certificate on a case. The formula of the case is made and handed to `steps`,
+/// without a step. Then the file is read in pieces and checked over this formula, up to its first refused
+/// line.
 ///
-/// `SinkFailed` comes only where the faults of `steps` rose; `Memory` for want of memory.
+/// `SinkFailed` comes only if the faults of `steps` rose; `Memory` if memory runs out.
 fn check_case<W, D>(
     alloc: Global,
     world: &mut W,
@@ -197,14 +198,14 @@ where
     Ok(file_answer(world, job.cert.as_str(), confirm)?)
 }
 
-/// What the certificate of a job says of the run of the program that these texts spell, which fails; or why it isn't
-/// judged.
+/// The answer of a job's certificate on the run of the program that these texts spell, which fails; or why it
+/// isn't checked.
 ///
-/// In this order it reads the program, the input and the weights, counts the units, and runs the program as written.
-/// It hands the formula to `steps`, and no step. Then it reads the certificate in pieces and judges it over that
-/// formula, up to its first refused line.
+/// In this order it reads the program, the input and the weights, counts the units, and runs the program as
+/// written. It hands the formula to `steps`, without a step. Then it reads the certificate in pieces and
+/// checks it over that formula, up to its first refused line.
 ///
-/// `SinkFailed` comes only where the faults of `steps` rose; `Memory` for want of memory.
+/// `SinkFailed` comes only if the faults of `steps` rose; `Memory` if memory runs out.
 pub fn check_texts<W, D>(
     alloc: Global,
     world: &mut W,

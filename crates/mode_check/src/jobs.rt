@@ -1,4 +1,4 @@
-//! A certificate that is to be checked.
+//! The jobs of checking a certificate.
 
 ghost use Rattle.std.specs.Prelude.{◌≡◌};
 ghost use Rattle.mode_check.specs.Jobs.{files_of};
@@ -9,7 +9,7 @@ use ba_commands::Text;
 use ba_files::Named;
 use ba_tree::run::Bounds;
 
-/// A check: the names of its files, and the settings that the certificate is of.
+/// A check: the names of its files, and the settings that the certificate has to have.
 #[derive(Drop)]
 pub struct CheckJob<'a> {
     /// The file of the program.
@@ -20,17 +20,17 @@ pub struct CheckJob<'a> {
     pub cert: Text<'a>,
     /// The file of the weights, if there is one.
     pub weights: Option<Text<'a>>,
-    /// How far a run may go.
+    /// The bounds of runs.
     pub bounds: Bounds,
-    /// How many conflicts the search may have.
+    /// The limit on conflicts of the search.
     pub conflicts: u64,
-    /// How many sets may be listed.
+    /// The limit on listed sets.
     pub sets: u32,
 }
 
 impl<'a> CheckJob<'a> {
-    /// The files that are read whole: the program, the input, and the weights if they are named. The certificate
-    /// isn't among them: it is read behind them.
+    /// The files that are read whole: the program, the input, and the weights if they are named. The
+    /// certificate is read after them, in pieces.
     pub fn files(&self) -> [Named<'a>; 3]
         ensures { result ≡ files_of self.now }
     {

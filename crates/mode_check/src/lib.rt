@@ -1,4 +1,4 @@
-//! The mode `check`: what a certificate says of a run that fails, judged as it is read.
+//! The mode `check`: proof checking of a certificate for a failing run, line by line as it is read.
 #![tactic(auto)]
 
 mod certificates;

@@ -54,7 +54,7 @@ module _ (j : LocaliseJob) (x : Texts) (p : Program) where
   abbrev IsTrue : Derivation → Verdict → Type 0
   IsTrue d v = IsVerdict weights good j.conflicts j.sets d.steps v
 
-  -- what is told of all least sets is one, but for their runs where these are shown
+  -- what is told of all least sets is one, except for their runs if these are shown
   all_agree : (t : Telling) (weight more : ℕ) (sets others : List FoundSet) (a b : Answer) →
       AreLocated weights good j.sets weight sets → AreLocated weights good j.sets more others → a ≡
       sets_answer t x.program p weight sets →

@@ -1,4 +1,4 @@
--- What a job leaves where it stops.
+-- What a job leaves if it stops.
 
 use Rattle.std.proofs.Common.{◌≡◌, ◌⊎◌, ℕ, Bool, true, ◌&&◌, is_some, Option, None, Some, IfSome, option_map, List, [], ◌∷◌, inl, inr, refl, sym, ◌∙◌, ap, subst}
 use Rattle.ba_cert.specs.declared.head.CertHead.{CertHead}
@@ -8,7 +8,7 @@ use Rattle.ba_cert.specs.Certificates.{steps_from}
 use Rattle.ba_cert.specs.Writing.{is_named, is_sound, is_written, may_be_named, steps_at}
 use Rattle.ba_cert.proofs.SinkLaws.{sound-written}
 use Rattle.ba_choices.specs.Judges.{Judge}
-use Rattle.ba_checker.specs.Judging.{after_all}
+use Rattle.ba_checker.specs.StepRules.{after_all}
 use Rattle.ba_checker.specs.Puts.{LeavesSteps}
 use Rattle.ba_checker.specs.States.{State, first_state}
 use Rattle.ba_commands.specs.Modes.{Word}
@@ -150,7 +150,7 @@ search_begins : (j : LocaliseJob) (x : Texts) (p : Program) (cert : Option Word)
 search_begins j x p None old new t u (same, left) = same
 search_begins j x p (Some name) old new t u (begins, left) = inr begins
 
--- where a job stops whose files have these texts
+-- if a job stops whose files have these texts
 pub stops_begin : (j : LocaliseJob) (x : Texts) (old new : Outside) (t u : Told) → Stops j x old new t u →
     MayBegin (head_by j) j.cert old new
 stops_begin j x old new t u (at_once same hands) =

@@ -66,7 +66,7 @@ one_answer j x h k a b = answers_agree x.program (case_answer j.bounds x) (case_
     (IsFound j x) (shows_runs j.telling) h k a b
     (λ p q spells spelled equal found holds. rows_agree j x p q equal h k a b found holds)
 
--- where the program of a text has no answer at once, its answer is of a search
+-- if the program of a text has no answer at once, its answer is of a search
 pub answer_of_search : (j : LocaliseJob) (x : Texts) (p : Program) → Spells x.program p →
     case_answer j.bounds x p ≡ None → (h : List Derivation) (a : Answer) → IsAnswer j x h a → IsOfSearch a
 answer_of_search j x p spells none h a = is_of_search x.program (case_answer j.bounds x)

@@ -85,7 +85,7 @@ module _ (text : List ℕ) (program : ProgramTree) (read : IsReadAs text program
   unfaulty fault (no_main tree it clean untyped is) =
       let both = sym untyped ∙ read.typed tree (marks_are tree it) in cc
 
--- THERE IS NO ANSWER AT ONCE where none of the four is there
+-- THERE IS NO ANSWER AT ONCE if none of the four is there
 
 none_of : (a b c d : Option Answer) → a ≡ None → b ≡ None → c ≡ None → d ≡ None →
     first_answer (a ∷ b ∷ c ∷ d ∷ []) ≡ None

@@ -53,7 +53,7 @@ finds_answer j x c source t u v a is finds same tells = record {
   hands = finds.hands;
 }
 
--- where no certificate is named
+-- if no certificate is named
 pub concluded : (j : LocaliseJob) (x : Texts) (c : Case) (o : Outside) (t u : Told) (a : Answer) →
     IsCaseOf j.bounds x c → FindsAnswer j x c.program t u a → Concludes j x None o o t u a
 concluded j x c o t u a is finds = record {
@@ -117,8 +117,8 @@ heads a b logs others e = cc
 tails : (a b : Option (List CertStep)) (logs others : Logs) → a ∷ logs ≡ b ∷ others → logs ≡ others
 tails a b logs others e = cc
 
--- a sink of its text and then of another sink was handed the derivation, so the other was handed it, and the
--- file holds its text
+-- a sink of a text and then of another sink was handed the derivation; so was the other, and the file holds
+-- its text
 pub certified : (j : LocaliseJob) (x : Texts) (c : Case) (name : Word) (old begun new : Outside)
     (from to t u : Told) (a : Answer) (log later : Option (List CertStep)) → IsCaseOf j.bounds x c →
     FindsAnswer j x c.program from to a → from.over ≡ t.over → to.over ≡ u.over → from.logs ≡ log ∷ t.logs →

@@ -1,4 +1,4 @@
--- WHAT A JOB COMES TO, where its files have these texts. It says nothing of a world.
+-- THE ANSWERS OF A JOB, by the texts of its files. They say nothing of a world.
 
 use Rattle.std.specs.Prelude.{◌≡◌, ◌⊎◌, ℕ, ◌+◌, Bool, false, None, List, [], ◌∷◌, length}
 use Rattle.ba_answers.specs.declared.answers.Answer.{Answer}
@@ -20,25 +20,30 @@ use Rattle.mode_localise.specs.declared.jobs.LocaliseJob.{LocaliseJob}
 use Rattle.mode_localise.specs.declared.jobs.Telling.{Telling}
 use Rattle.mode_localise.specs.declared.jobs.Telling.TheVariants as telling
 
--- what the statements weigh, and which choices make a good run on the input where a set of statements is relaxed
+-- the weights of the statements, and which choices make a good run on the input if a set of statements is
+-- relaxed
 
+-- the judge of the program on its failing input
 abbrev pub judge_in : LocaliseJob → Texts → Program → Judge
 judge_in j x p = judge_of p (input_of p x.input) j.bounds
 
--- least sets are told by their report; those of a sample by what they weigh and how many they are
+-- least sets are reported; those of a sample are told by their weight and their number
 abbrev pub sets_answer : Telling → List ℕ → Program → ℕ → List FoundSet → Answer
 sets_answer (telling.Report runs) source p weight sets = answer.Located (report_text source p runs weight sets)
 sets_answer (telling.Count additions) source p weight sets = answer.Sampled additions weight (length sets)
 
--- THE ANSWER OF A VERDICT: the least sets; no repair; more least sets than may be listed, each of this weight; or the
--- allowed conflicts are spent
+-- THE ANSWER OF A VERDICT:
+-- - the least sets
+-- - no repair
+-- - more least sets than may be listed, each of this weight
+-- - the allowed conflicts are spent
 abbrev pub verdict_answer : LocaliseJob → List ℕ → Program → Verdict → Answer
 verdict_answer j source p (Located weight sets) = sets_answer j.telling source p weight sets
 verdict_answer j source p NoRepair = answer.NoRepair
 verdict_answer j source p (TooMany weight sets) = answer.TooManySets weight j.sets None
 verdict_answer j source p Spent = answer.BudgetSpent j.conflicts None
 
--- THE ROW OF A SEARCH: the derivation that was handed on shows the verdict that the answer tells
+-- THE ROW OF A SEARCH: the derivation that was handed on shows the verdict of the answer
 pub record IsFound (j : LocaliseJob) (x : Texts) (p : Program) (handed : List Derivation) (a : Answer) : Type 0
   where
     pub derivation : Derivation
@@ -51,13 +56,12 @@ pub record IsFound (j : LocaliseJob) (x : Texts) (p : Program) (handed : List De
 abbrev pub IsAnswer : LocaliseJob → Texts → List Derivation → Answer → Type 0
 IsAnswer j x = IsAnswerOf x.program (case_answer j.bounds x) (IsFound j x)
 
--- whether runs are shown, which may be others
+-- whether runs are shown, which need not be the same ones
 abbrev pub shows_runs : Telling → Bool
 shows_runs (telling.Report runs) = runs
 shows_runs (telling.Count additions) = false
 
--- THE ANSWER TO A SAMPLE with so many additions: it has one set more than these, each of weight 1; or its
--- conflicts are spent
+-- THE ANSWER TO A SAMPLE: it has one set more than additions, each of weight 1; or its conflicts are spent
 abbrev pub IsAnswerOfSample : ℕ → Answer → Type 0
 IsAnswerOfSample n a =
     (a ≡ answer.Sampled n 1 (n + 1)) ⊎ (a ≡ answer.BudgetSpent (sample_job n).conflicts None)

@@ -1,4 +1,4 @@
--- WHAT A JOB COMES TO with its sink of steps and its certificate.
+-- THE ANSWERS OF A JOB with its sink of steps and its certificate.
 
 use Rattle.std.specs.Prelude.{◌≡◌, ◌⊎◌, ℕ, Option, None, Some, List, [], ◌∷◌}
 use Rattle.ba_answers.specs.declared.answers.Answer.{Answer}
@@ -15,26 +15,26 @@ use Rattle.mode_localise.specs.Answers.{IsAnswer}
 use Rattle.mode_localise.specs.Jobs.{head_by}
 use Rattle.mode_localise.specs.declared.jobs.LocaliseJob.{LocaliseJob}
 
--- only the file of this name was written, and it holds this text, where that is told
+-- only the file of this name was written, and it holds this text, if it is told what the file holds
 pub record Writes (name text : List ℕ) (old new : Outside) : Type 0 where
   pub only : OnlyWritesTo name old new
   pub holds : Holds name text new
 
--- the text of these settings and of the steps of the first derivation to the file of the certificate, if one is
--- named; else nothing
+-- The text of these settings and of the steps of the first derivation was written to the certificate, if one
+-- is named. Nothing else was written.
 abbrev pub Certifies : CertHead → Option Word → List Derivation → Outside → Outside → Type 0
 Certifies h None handed old new = new ≡ old
 Certifies h (Some name) [] old new = new ≡ old
 Certifies h (Some name) (d ∷ others) old new = Writes name (certificate_of h d.steps) old new
 
--- only the file of this name was written. It holds the first bytes of a certificate of these settings, if that is
--- told. Or it couldn't be begun, and is as it was
+-- Only the file of this name was written. It holds the first bytes of a certificate of these settings, if
+-- that is told. Or it couldn't be begun, and is as it was.
 pub record Begins (h : CertHead) (name : List ℕ) (old new : Outside) : Type 0 where
   pub only : OnlyWritesTo name old new
   pub beginning : IsUnbegun name old new ⊎ HoldsBeginning h name new
 
--- AN ANSWER of the texts. Its derivation, if there is one, was handed to the sink of steps. It was written to the
--- certificate, if one is named
+-- AN ANSWER of the texts. Its derivation, if there is one, was handed to the sink of steps, and written to
+-- the certificate, if one is named.
 pub record Concludes (j : LocaliseJob) (x : Texts) (name : Option Word) (before after : Outside) (t u : Told)
     (a : Answer) : Type 0
   where
@@ -43,8 +43,8 @@ pub record Concludes (j : LocaliseJob) (x : Texts) (name : Option Word) (before 
     pub hands : HandsAll handed t u
     pub certifies : Certifies (head_by j) name handed before after
 
--- a certificate of this name and these settings is begun where the outside and the faults of the sink are
--- these
+-- what held before a certificate of this name and these settings was begun: the outside, and the faults of
+-- the sink
 pub record Starts (name : Word) (head : CertHead) (outside : Outside) (faults : ℕ)
     (start_name : Word) (start_head : CertHead) (start_outside : Outside) (start_faults : ℕ) : Type 0 where
   pub named : name ≡ start_name

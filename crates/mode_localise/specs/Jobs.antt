@@ -1,4 +1,4 @@
--- WHAT IS TO BE LOCALISED, and samples.
+-- JOBS of localising, and samples.
 
 use Rattle.std.specs.Prelude.{ℕ, ◌<◌, ◌^◌, ◌≡◌, true, false, None, List, []}
 use Rattle.ba_answers.specs.declared.file.File.TheVariants as file
@@ -15,7 +15,7 @@ use Rattle.mode_localise.specs.declared.jobs.Telling.TheVariants as telling
 abbrev pub files_of : LocaliseJob → List Named
 files_of j = files_for j.program file.Input j.input j.weights
 
--- its settings, as a certificate names them
+-- the settings of a job, as a certificate has them
 abbrev pub head_by : LocaliseJob → CertHead
 head_by j = record { bounds = j.bounds; conflicts = j.conflicts; sets = j.sets }
 
@@ -24,8 +24,8 @@ pub record MayBeDone (j : LocaliseJob) : Type 0 where
   pub countable : j.conflicts < 2 ^ 62
   pub bounds : are_bounds j.bounds ≡ true
 
--- A SAMPLE: its least sets are searched for in its own text. The bound is 1, the input is empty, each statement has
--- weight 1, and the settings are the default ones. No file is read or written
+-- A SAMPLE: its least sets are searched for in its own text. The bound is 1, the input is empty, each
+-- statement has weight 1, and the settings are the default ones. No file is read or written.
 abbrev pub sample_job : ℕ → LocaliseJob
 sample_job additions = record {
   program = [];
@@ -39,5 +39,6 @@ sample_job additions = record {
   steady = false;
 }
 
+-- the texts of a sample
 abbrev pub sample_texts : ℕ → Texts
 sample_texts additions = record { program = sample_text additions; input = []; weights = [] }

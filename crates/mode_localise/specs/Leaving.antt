@@ -23,7 +23,7 @@ use Rattle.mode_localise.specs.Certifying.{Begins, Concludes}
 use Rattle.mode_localise.specs.Jobs.{MayBeDone, head_by}
 use Rattle.mode_localise.specs.declared.jobs.LocaliseJob.{LocaliseJob}
 
--- by a search for the least sets of this program, as far as the sink tells
+-- what a search for the least sets of this program leaves, as far as the sink tells
 abbrev pub LeavesPart : LocaliseJob → Texts → Program → Told → Told → Type 0
 LeavesPart j x p t u = LeavesDerivation (weights_of p x) (judge_in j x p) j.conflicts j.sets t u
 
@@ -31,13 +31,13 @@ LeavesPart j x p t u = LeavesDerivation (weights_of p x) (judge_in j x p) j.conf
 abbrev pub with_log : Option (List CertStep) → Told → Told
 with_log log t = record t { logs = log ∷ t.logs }
 
--- a file is being written, of this name where that is told
+-- a file is being written, of this name if that is told
 abbrev pub IsWriting : Word → Outside → Type 0
 IsWriting name o = (o.is_writing ≡ true) × IfSome o.writing (λ written. written ≡ name)
 
--- by a search that writes the file of this name. Either nothing was handed on, and the file was not begun or holds
--- first bytes of its settings. Or it is being written: its steps, none at first, are one more log before those of the
--- sink
+-- What a search leaves that writes the file of this name. Either nothing was handed on, and the file was not
+-- begun or holds first bytes of its settings. Or it is being written: its steps, none at first, are one more
+-- log before those of the sink.
 pub data LeavesWritten (j : LocaliseJob) (x : Texts) (p : Program) (name : Word) (old new : Outside)
     (t u : Told) : Type 0
   where
@@ -48,7 +48,7 @@ pub data LeavesWritten (j : LocaliseJob) (x : Texts) (p : Program) (name : Word)
         LeavesPart j x p (with_log first t) (with_log (steps_at (head_by j) name new) u) →
         LeavesWritten j x p name old new t u
 
--- by a search, which writes the certificate, if one is named, and else no file
+-- what a search leaves that writes the certificate, if one is named, and no other file
 abbrev pub SearchLeaves : LocaliseJob → Texts → Program → Option Word → Outside → Outside → Told → Told → Type 0
 SearchLeaves j x p None old new t u = (new ≡ old) × LeavesPart j x p t u
 SearchLeaves j x p (Some name) old new t u =
@@ -60,7 +60,7 @@ pub data Stops (j : LocaliseJob) (x : Texts) (old new : Outside) (t u : Told) : 
   in_search : (p : Program) → Spells x.program p → case_answer j.bounds x p ≡ None →
       SearchLeaves j x p j.cert old new t u → Stops j x old new t u
 
--- WHERE PARTS END
+-- ENDS OF PARTS
 
 -- a derivation was handed on that shows the answer
 pub record FindsAnswer (j : LocaliseJob) (x : Texts) (p : Program) (t u : Told) (a : Answer) : Type 0 where

@@ -1,4 +1,4 @@
-//! What is to be localised.
+//! The jobs of localising.
 
 ghost use Rattle.std.specs.Prelude.{◌≡◌, ◌≤◌, IfOk};
 ghost use Rattle.mode_localise.specs.Jobs.{files_of, sample_job, sample_texts};
@@ -20,14 +20,14 @@ pub enum Telling {
         /// Whether a run is shown for each set.
         runs: bool,
     },
-    /// By what they weigh and how many they are, as those of a sample.
+    /// By their weight and their number, as for a sample.
     Count {
         /// How many additions the sample has.
         additions: u32,
     },
 }
 
-/// A search for least sets: the names of its files, and how far the runs and the search may go.
+/// A search for least sets: the names of its files, the bounds of runs, and the limits of the search.
 #[derive(Drop)]
 pub struct LocaliseJob<'a> {
     /// The file of the program.
@@ -36,16 +36,16 @@ pub struct LocaliseJob<'a> {
     pub input: Text<'a>,
     /// The file of the weights, if there is one.
     pub weights: Option<Text<'a>>,
-    /// How far a run may go.
+    /// The bounds of runs.
     pub bounds: Bounds,
-    /// How many conflicts the search may have.
+    /// The limit on conflicts of the search.
     pub conflicts: u64,
-    /// How many sets may be listed.
+    /// The limit on listed sets.
     pub sets: u32,
     /// The file that the certificate is written to, if there is one.
     pub cert: Option<Text<'a>>,
     pub telling: Telling,
-    /// Whether the search restarts steadily, and not by Luby's sequence.
+    /// Whether restarts are steady, and not by Luby's sequence.
     pub steady: bool,
 }
 
@@ -58,7 +58,7 @@ impl<'a> LocaliseJob<'a> {
     }
 }
 
-/// The job of a sample with so many additions. It has no files.
+/// The job of a sample with this many additions. It has no files.
 pub fn sample_job(additions: u32) -> LocaliseJob<'static>
     ensures { result ≡ sample_job additions }
 {
@@ -80,7 +80,7 @@ pub fn sample_job(additions: u32) -> LocaliseJob<'static>
 
 /// The texts of a sample: its program, an empty input and no weights.
 ///
-/// The one error is want of memory.
+/// The only error is out of memory.
 pub fn sample_texts(alloc: Global, additions: u32) -> Result<Texts, AllocError>
     requires { additions ≤ 500 }
     ensures { IfOk result (λ texts. texts ≡ sample_texts additions) }

@@ -9,14 +9,14 @@ ghost use Rattle.mode_localise.specs.Answers.{IsAnswer, IsAnswerOfSample, shows_
 ghost use Rattle.mode_localise.specs.Jobs.{sample_job, sample_texts};
 ghost use Rattle.mode_localise.specs.declared.jobs.LocaliseJob.{LocaliseJob};
 
-/// Texts come to one answer. Two exceptions: a search may say that its conflicts are spent, and reports that show
-/// runs may show other runs of the same sets.
+/// Law: texts have one answer, with two exceptions. A search may say that its conflicts are spent, and
+/// reports that show runs may show other runs of the same sets.
 pub fn one_answer()
     ensures { (j : LocaliseJob) (x : Texts) (handed others : List Derivation) (a b : Answer)
         → IsAnswer j x handed a → IsAnswer j x others b → Agree (shows_runs j.telling) a b }
 {}
 
-/// A sample with so many additions has one set more than these, each of weight 1. Or its conflicts are spent.
+/// Law: a sample has one set more than additions, each of weight 1; or its conflicts are spent.
 pub fn answer_of_sample()
     ensures { (n : ℕ) → n ≤ 500 → (handed : List Derivation) (a : Answer)
         → IsAnswer (sample_job n) (sample_texts n) handed a → IsAnswerOfSample n a }

@@ -1,5 +1,5 @@
-//! The mode `localise`: the least sets of statements whose change could repair a run that fails, with a certificate where
-//! one is named. A sample is localised too: a program made for the purpose.
+//! The mode `localise`: fault localisation of one failing run, with a certificate if one is named. A sample,
+//! a program made for the purpose, is localised too.
 #![tactic(auto)]
 
 mod jobs;

@@ -27,9 +27,9 @@ use ba_world::World;
 use std::alloc::{AllocError, Global};
 use std::marker::Brand;
 
-/// The answer that tells a verdict on the program of this source text.
+/// The answer for a verdict on the program of this source text.
 ///
-/// The one error is want of memory.
+/// The only error is out of memory.
 fn verdict_answer(
     alloc: Global,
     job: &LocaliseJob,
@@ -65,9 +65,9 @@ fn verdict_answer(
     }
 }
 
-/// What a search for the least sets of a case comes to; its derivation is handed to `steps`.
+/// The answer of a search for the least sets of a case; its derivation is handed to `steps`.
 ///
-/// `SinkFailed` comes only where the faults of `steps` rose; `Memory` for want of memory.
+/// `SinkFailed` comes only if the faults of `steps` rose; `Memory` if memory runs out.
 fn locate<D: StepSink + Drop, R: SearchRules + Drop>(
     alloc: Global,
     job: &LocaliseJob,
@@ -96,7 +96,7 @@ fn locate<D: StepSink + Drop, R: SearchRules + Drop>(
     Ok(verdict_answer(alloc, job, source, &case.program, &verdict)?)
 }
 
-/// The settings of a job, as a certificate names them.
+/// The settings of a job, as a certificate has them.
 fn head_by(job: &LocaliseJob) -> CertHead
     ensures { result ≡ head_by job.now }
 {
@@ -109,7 +109,7 @@ fn head_by(job: &LocaliseJob) -> CertHead
 
 /// Begins the certificate of a search.
 ///
-/// `SinkFailed` comes only where the world's faults of writing rose; `Memory` for want of memory.
+/// `SinkFailed` comes only if the world's faults of writing rose; `Memory` if memory runs out.
 fn begin<W: World>(
     alloc: Global,
     world: &mut W,
@@ -132,12 +132,11 @@ fn begin<W: World>(
     }
 }
 
-/// The same as [`locate`], with a certificate: its steps are written to the file of this name as
-/// they are made, and then handed on.
+/// The same as [`locate`], with a certificate. Its steps are written to the file of this name as they are
+/// made, and then handed on.
 ///
-/// `SinkFailed` comes only where the faults of `steps` and of the world's writing rose, which
-/// count together; `Memory` for want of memory. The file and `steps` then have the beginning of one
-/// derivation.
+/// `SinkFailed` comes only if the faults of `steps` and of the world's writing rose, which count together;
+/// `Memory` if memory runs out. The file and `steps` then have the beginning of one derivation.
 fn certify<S, W, D, R>(
     alloc: Global,
     world: &mut W,
@@ -173,11 +172,14 @@ where
     }
 }
 
-/// What a search comes to; the derivation is handed to `steps`, and its steps are written to the certificate, if one
-/// is named.
+/// The answer of a search. The derivation is handed to `steps`, and its steps are written to the certificate,
+/// if one is named.
 ///
-/// `SinkFailed`: the faults of `steps` rose. If a file is named, those of `steps` and of the world's writing count
-/// together. `Memory`: out of memory. What was handed on before an error stays.
+/// - `SinkFailed`: the faults of `steps` rose. If a certificate is named, those of `steps` and of the world's
+///   writing count together.
+/// - `Memory`: out of memory.
+///
+/// What was handed on before an error stays.
 fn conclude<W, D, R>(
     alloc: Global,
     world: &mut W,
@@ -202,14 +204,18 @@ where
     }
 }
 
-/// The least sets of the program that these texts spell, whose run on the input fails; or why they aren't told.
+/// The least sets of the program that these texts spell, whose run on the input fails; or why there are none.
 ///
-/// In this order it reads the program, the input and the weights, counts the units, runs the program as written, and
-/// searches. The derivation is handed to `steps`: the formula, and then each step as it is made. Where a certificate is
-/// named, it is begun before the search, and each step is written to it before it is handed on.
+/// In this order it reads the program, the input and the weights, counts the units, runs the program as
+/// written, and searches. The derivation is handed to `steps`: the formula, and then each step as it is made.
+/// If a certificate is named, it is begun before the search, and each step is written to it before it is
+/// handed on.
 ///
-/// `SinkFailed`: the faults of `steps` rose. If a certificate is named, those of `steps` and of the world's writing
-/// count together. `Memory`: out of memory. What was handed on before an error stays.
+/// - `SinkFailed`: the faults of `steps` rose. If a certificate is named, those of `steps` and of the world's
+///   writing count together.
+/// - `Memory`: out of memory.
+///
+/// What was handed on before an error stays.
 pub fn localise_texts<W, D, R>(
     alloc: Global,
     world: &mut W,

@@ -6,7 +6,7 @@ use Rattle.ba_bytes.specs.Lines.{lines_of}
 use Rattle.ba_cases.proofs.Alike.{infos_alike}
 use Rattle.ba_localise.specs.Places.{FoundPlaces, place_sets_of}
 use Rattle.ba_report.specs.Lines.{line_at}
-use Rattle.ba_report.specs.Report.{place_text, run_line, source_text}
+use Rattle.ba_report.specs.Report.{statement_head, run_line, source_text}
 use Rattle.ba_tree.specs.Choices.{info_of}
 use Rattle.ba_tree.specs.declared.run.Place.{Place}
 use Rattle.ba_tree.specs.declared.run.Step.{Step}
@@ -70,7 +70,7 @@ module _ (p q : Program) (equal : AreEquivalent p q) where
     where
       by : (info : Option StmtInfo) → line_of lines p place.path info ≡ line_of lines q place.path info
       by None = refl
-      by (Some info) = ap (λ path. codes "  " ++ place_text info ++ codes " at " ++ path
+      by (Some info) = ap (λ path. codes "  " ++ statement_head info ++ codes " at " ++ path
           ++ source_text (line_at lines info.at.line)) (path_same place.path)
 
   lines_same : (lines : List (List ℕ)) (runs : Bool) (number : ℕ) (found : List FoundPlaces) →

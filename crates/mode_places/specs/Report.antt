@@ -4,7 +4,7 @@ use Rattle.std.specs.Prelude.{ℕ, ◌+◌, Bool, Option, None, Some, List, [], 
 use Rattle.ba_bytes.specs.Lines.{lines_of}
 use Rattle.ba_localise.specs.Places.{FoundPlaces}
 use Rattle.ba_report.specs.Lines.{line_at}
-use Rattle.ba_report.specs.Report.{place_text, run_line, source_text}
+use Rattle.ba_report.specs.Report.{statement_head, run_line, source_text}
 use Rattle.ba_tree.specs.Choices.{info_of}
 use Rattle.ba_tree.specs.declared.run.Place.{Place}
 use Rattle.ba_tree.specs.declared.run.Step.{Step}
@@ -34,7 +34,7 @@ path_text p path = codes "main" ++ flat_map (step_text p) path
 abbrev pub line_of : List (List ℕ) → Program → List Step → Option StmtInfo → List ℕ
 line_of lines p path None = []
 line_of lines p path (Some info) =
-    codes "  " ++ place_text info ++ codes " at " ++ path_text p path
+    codes "  " ++ statement_head info ++ codes " at " ++ path_text p path
     ++ source_text (line_at lines info.at.line)
 
 abbrev pub place_line : List (List ℕ) → Program → Place → List ℕ

@@ -9,7 +9,7 @@ ghost use Rattle.mode_places.specs.Report.{line_of, located_text, path_text, pla
 use ba_choices::Choice;
 use ba_derivations::FoundSet;
 use ba_places::place_at;
-use ba_report::{Lines, info_of, push_place, push_source};
+use ba_report::{Lines, info_of, push_source, push_statement_head};
 use ba_text::{push_choices, push_number};
 use ba_tree::run::{Place, Step};
 use ba_tree::tree::{Program, StmtInfo};
@@ -75,7 +75,7 @@ impl PlaceListing<'_> {
             ++ line_of self.now.lines self.now.program.now path.now (Some info)) }
     {
         text.extend_from_slice(b"  ")?;
-        push_place(info, text)?;
+        push_statement_head(info, text)?;
         text.extend_from_slice(b" at ")?;
         self.push_path(path, text)?;
         push_source(self.lines.at(info.at.line), text)

@@ -110,7 +110,7 @@ module _ (j : RankJob) (x : Texts) (p : Program) where
       one : Listed
       one = record { sets = sets; derivation = by.derivation }
 
-  -- no search comes behind one that stops
+  -- no search comes after one that stops
   pub stopped_at : (before : List InputLine) (entry : InputLine) (others : List InputLine)
       (found : List (List (List ℕ))) (a : Answer) (t m u : Told) →
       inputs_of p x.input ≡ before ++ entry ∷ others → HasListed j x p before found t m →

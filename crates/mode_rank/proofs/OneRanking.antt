@@ -228,7 +228,7 @@ module _ (j : RankJob) (x : Texts) where
       (λ p q spells also equal found too. one_found j x q h k a b (found_alike p q equal j x h a found) too)
       one other
 
-  -- where the program has no answer at once, the answer is of the searches
+  -- if the program has no answer at once, the answer is of the searches
   pub ranking_of_search : (p : Program) → Spells x.program p → rank_answer j.bounds x p ≡ None →
       (h : List Derivation) (a : Answer) → IsAnswer j x h a → IsOfRanking a
   ranking_of_search p spells undecided h a (searching.at_once now none) =

@@ -1,4 +1,4 @@
--- WHAT A JOB COMES TO, where its files have these texts. It says nothing of a world.
+-- THE ANSWERS OF A JOB, by the texts of its files. They say nothing of a world.
 
 use Rattle.std.specs.Prelude.{◌≡◌, ℕ, Option, None, Some, List, [], ◌∷◌, ◌++◌, map, length}
 use Rattle.std.specs.List.{AllZip}
@@ -24,6 +24,7 @@ use Rattle.mode_rank.specs.declared.jobs.RankJob.{RankJob}
 use Rattle.mode_rank.specs.declared.searches.Found.{Found}
 use Rattle.mode_rank.specs.declared.searches.Found.TheVariants as single
 
+-- the judge of a program on one of the inputs
 abbrev pub judge_at : RankJob → Program → InputLine → Judge
 judge_at j p entry = judge_of p entry.input j.bounds
 
@@ -33,11 +34,12 @@ ShowsAt j x p entry = Shows (weights_of p x) (judge_at j p entry) j.conflicts j.
 
 -- THE LISTS of sets that a ranking counts, each with the derivation that shows it
 
+-- the least sets of an input, and the derivation that shows them
 pub record Listed : Type 0 where
   pub sets : List (List ℕ)
   pub derivation : Derivation
 
--- the sets of a verdict: none where there is no repair; other verdicts have no list
+-- the sets of a verdict: none if there is no repair; other verdicts have no list
 abbrev pub sets_in : Verdict → Option (List (List ℕ))
 sets_in (Located weight found) = Some (sets_of found)
 sets_in NoRepair = Some []
@@ -55,9 +57,11 @@ pub record IsListed (j : RankJob) (x : Texts) (p : Program) (entry : InputLine) 
 abbrev pub AreListed : RankJob → Texts → Program → List InputLine → List Listed → Type 0
 AreListed j x p = AllZip (IsListed j x p)
 
+-- the derivations of lists, in order
 abbrev pub derivations_of : List Listed → List Derivation
 derivations_of lists = map (λ (l : Listed). l.derivation) lists
 
+-- the sets of lists, in order
 abbrev pub lists_of : List Listed → List (List (List ℕ))
 lists_of lists = map (λ (l : Listed). l.sets) lists
 
@@ -67,7 +71,7 @@ stop_answer j line (TooMany weight found) = Some (answer.TooManySets weight j.se
 stop_answer j line Spent = Some (answer.BudgetSpent j.conflicts (Some line))
 stop_answer j line _ = None
 
--- what is found by a verdict: its list, or its answer
+-- a verdict has its list, or its answer
 abbrev pub TellsList : RankJob → ℕ → Verdict → Found → Type 0
 TellsList j line verdict (single.Sets sets) = sets_in verdict ≡ Some sets
 TellsList j line verdict (single.Stopped a) = stop_answer j line verdict ≡ Some a
@@ -82,8 +86,8 @@ pub record IsRanked (j : RankJob) (x : Texts) (p : Program) (handed : List Deriv
     pub ranking : IsRanking (lists_of lists) entries
     pub tells : a ≡ answer.Ranked (ranked_text x.program p (length (inputs_of p x.input)) entries)
 
--- or those before one have theirs. The last derivation shows that this one has more least sets than may be listed, or
--- that its conflicts are spent. No search comes behind it
+-- Or the inputs before one have their lists. The last derivation shows that this one has more least sets than
+-- may be listed, or that its conflicts are spent. No search comes after it.
 pub record IsStoppedAt (j : RankJob) (x : Texts) (p : Program) (handed : List Derivation) (a : Answer) :
     Type 0
   where
@@ -99,6 +103,7 @@ pub record IsStoppedAt (j : RankJob) (x : Texts) (p : Program) (handed : List De
     pub shows : ShowsAt j x p entry last verdict
     pub tells : stop_answer j entry.line verdict ≡ Some a
 
+-- the searches found a ranking, or stopped at a line
 pub data IsFound (j : RankJob) (x : Texts) (p : Program) (handed : List Derivation) (a : Answer) : Type 0
   where
     ranked : IsRanked j x p handed a → IsFound j x p handed a

@@ -1,4 +1,4 @@
--- WHAT IS TO BE RANKED.
+-- JOBS of ranking.
 
 use Rattle.std.specs.Prelude.{◌≡◌, ◌<◌, ◌^◌, true, List}
 use Rattle.ba_answers.specs.declared.file.File.TheVariants as file

@@ -35,8 +35,8 @@ pub record HasListed (j : RankJob) (x : Texts) (p : Program) (inputs : List Inpu
     pub found_are : found ≡ lists_of lists
     pub hands : HandsAll (derivations_of lists) t u
 
--- THE SEARCH OVER ONE INPUT comes to its list, whose derivation was handed on; or to the answer of a verdict
--- without one
+-- THE SEARCH OVER ONE INPUT finds its list, whose derivation was handed on; or the answer of a verdict
+-- without a list
 pub record FindsList (j : RankJob) (x : Texts) (p : Program) (entry : InputLine) (sets : List (List ℕ))
     (t u : Told) : Type 0
   where
@@ -44,6 +44,7 @@ pub record FindsList (j : RankJob) (x : Texts) (p : Program) (entry : InputLine)
     pub listed : IsListed j x p entry (record { sets = sets; derivation = derivation })
     pub hands : Hands derivation t u
 
+-- the search of one input handed on a derivation whose verdict stops the ranking with this answer
 pub record FindsNone (j : RankJob) (x : Texts) (p : Program) (entry : InputLine) (a : Answer) (t u : Told) :
     Type 0
   where
@@ -53,25 +54,28 @@ pub record FindsNone (j : RankJob) (x : Texts) (p : Program) (entry : InputLine)
     pub tells : stop_answer j entry.line verdict ≡ Some a
     pub hands : Hands derivation t u
 
+-- the search of one input found a list, or an answer without one
 abbrev pub Finds : RankJob → Texts → Program → InputLine → Told → Told → Found → Type 0
 Finds j x p entry t u (single.Sets sets) = FindsList j x p entry sets t u
 Finds j x p entry t u (single.Stopped a) = FindsNone j x p entry a t u
 
+-- what the search of one input leaves after an error
 abbrev pub PartLeaves : RankJob → Texts → Program → InputLine → Told → Told → Type 0
 PartLeaves j x p entry = LeavesDerivation (weights_of p x) (judge_at j p entry) j.conflicts j.sets
 
+-- how the search of one input ends
 abbrev pub OneEnds : RankJob → Texts → Program → InputLine → Told → Told → Result Found SearchError → Type 0
 OneEnds j x p entry t u =
     Ends (Finds j x p entry t u) (PartLeaves j x p entry t u) (Rose t.faults u.faults) t u
 
--- THE SEARCHES OVER ALL INPUTS come to their lists, or to an answer behind the lists of those before
+-- THE SEARCHES OVER ALL INPUTS find their lists, or an answer after the lists of those before
 abbrev pub ComesTo : RankJob → Texts → Program → Told → Told → Searched → Type 0
 ComesTo j x p t u (searched.Lists found) = HasListed j x p (inputs_of p x.input) found t u
 ComesTo j x p t u (searched.Stopped a) =
     (handed : List Derivation) × IsStoppedAt j x p handed a × HandsAll handed t u
 
--- WHAT IS LEFT, wherever they stop: the derivations of the first inputs; and then maybe what the search over
--- the next one leaves
+-- WHAT IS LEFT, wherever they stop: the derivations of the first inputs; and maybe what the search over the
+-- next one leaves
 pub data LeavesLists (j : RankJob) (x : Texts) (p : Program) (t u : Told) : Type 0 where
   between : (before others : List InputLine) (found : List (List (List ℕ))) →
       inputs_of p x.input ≡ before ++ others → HasListed j x p before found t u → LeavesLists j x p t u
@@ -79,6 +83,7 @@ pub data LeavesLists (j : RankJob) (x : Texts) (p : Program) (t u : Told) : Type
       (found : List (List (List ℕ))) (mid : Told) → inputs_of p x.input ≡ before ++ entry ∷ others →
       HasListed j x p before found t mid → PartLeaves j x p entry mid u → LeavesLists j x p t u
 
+-- how all searches end
 abbrev pub AllEnd : RankJob → Texts → Program → Told → Told → Result Searched SearchError → Type 0
 AllEnd j x p t u = Ends (ComesTo j x p t u) (LeavesLists j x p t u) (Rose t.faults u.faults) t u
 
@@ -94,7 +99,7 @@ pub record Concludes (j : RankJob) (x : Texts) (t u : Told) (a : Answer) : Type 
   pub is : IsAnswer j x handed a
   pub hands : HandsAll handed t u
 
--- where a job ends
+-- the end of a job
 abbrev pub TextsEnd : RankJob → Texts → Told → Told → Result Answer SearchError → Type 0
 TextsEnd j x t u = Ends (Concludes j x t u) (Stops j x t u) (Rose t.faults u.faults) t u
 

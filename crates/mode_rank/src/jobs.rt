@@ -1,4 +1,4 @@
-//! What is to be ranked.
+//! The jobs of ranking.
 
 ghost use Rattle.std.specs.Prelude.{◌≡◌};
 ghost use Rattle.mode_rank.specs.Jobs.{files_of};
@@ -9,7 +9,7 @@ use ba_commands::Text;
 use ba_files::Named;
 use ba_tree::run::Bounds;
 
-/// A ranking over several inputs: the names of its files, and how far each run and each search may go.
+/// A ranking over several inputs: the names of its files, the bounds of runs, and the limits of each search.
 #[derive(Drop)]
 pub struct RankJob<'a> {
     /// The file of the program.
@@ -18,13 +18,13 @@ pub struct RankJob<'a> {
     pub inputs: Text<'a>,
     /// The file of the weights, if there is one.
     pub weights: Option<Text<'a>>,
-    /// How far a run may go.
+    /// The bounds of runs.
     pub bounds: Bounds,
-    /// How many conflicts each search may have.
+    /// The limit on conflicts of each search.
     pub conflicts: u64,
-    /// How many sets each search may list.
+    /// The limit on listed sets of each search.
     pub sets: u32,
-    /// Whether the searches restart steadily, and not by Luby's sequence.
+    /// Whether restarts are steady, and not by Luby's sequence.
     pub steady: bool,
 }
 

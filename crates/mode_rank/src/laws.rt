@@ -8,8 +8,8 @@ ghost use Rattle.ba_derivations.specs.Handing.{Derivation};
 ghost use Rattle.mode_rank.specs.Answers.{IsAnswer};
 ghost use Rattle.mode_rank.specs.declared.jobs.RankJob.{RankJob};
 
-/// Texts come to one answer, with one exception: in place of a ranking or of too many sets, the conflicts of a search
-/// may be spent.
+/// Law: texts have one answer, with one exception. In place of a ranking or of too many sets, the conflicts
+/// of a search may be spent.
 pub fn one_ranking()
     ensures { (j : RankJob) (x : Texts) (handed others : List Derivation) (a b : Answer)
         → IsAnswer j x handed a → IsAnswer j x others b → Agree false a b }

@@ -1,8 +1,8 @@
-//! Rules of a search that are lent to it, so that the next search asks the same ones.
+//! Rules lent to a search, so that the next search asks the same ones.
 
 use ba_search::SearchRules;
 
-/// Rules that are lent.
+/// Lent rules.
 #[derive(Drop)]
 pub struct LentRules<'a, R> {
     pub rules: &'a R,

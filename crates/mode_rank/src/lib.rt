@@ -1,4 +1,4 @@
-//! The mode `rank`: the statements whose change could repair most of several runs that fail.
+//! The mode `rank`: ranking of statements by how many of several failing runs their change could repair.
 #![tactic(auto)]
 
 mod jobs;

@@ -21,9 +21,9 @@ use ba_search::{SearchError, SearchRules};
 use ba_steps::StepSink;
 use std::alloc::{AllocError, Global};
 
-/// The answer that reports the ranking of these lists of sets, one for each input.
+/// The answer with the ranking of these lists of sets, one for each input.
 ///
-/// The one error is want of memory.
+/// The only error is out of memory.
 fn ranked_answer(
     alloc: Global,
     source: &[u8],
@@ -40,9 +40,9 @@ fn ranked_answer(
     Ok(Answer::Ranked(Items::from_vec(bytes)))
 }
 
-/// The ranking over runs that fail, of a program with these texts; or the answer at which the searches stop.
+/// The ranking over failing runs of a program with these texts; or the answer at which the searches stop.
 ///
-/// `SinkFailed` comes only where the faults of `steps` rose; `Memory` for want of memory.
+/// `SinkFailed` comes only if the faults of `steps` rose; `Memory` if memory runs out.
 fn rank_runs<D: StepSink + Drop, R: SearchRules>(
     alloc: Global,
     job: &RankJob,
@@ -65,16 +65,16 @@ fn rank_runs<D: StepSink + Drop, R: SearchRules>(
     }
 }
 
-/// Ranks the statements of the program that these texts spell by how many of several failing runs their change could
-/// repair. Or it says why they aren't ranked.
+/// Ranks the statements of the program that these texts spell, by how many of several failing runs their
+/// change could repair; or says why not.
 ///
-/// In this order it reads the program, the inputs and the weights, counts the units, and runs the program as written
-/// on each input. Then it searches for the least sets of each run, one after the other. Each search has all conflicts
-/// and all sets that are allowed. It stops at the first that has more sets or spends its conflicts. Each derivation
-/// is handed to `steps`: the formula, and then each step as it is made.
+/// In this order it reads the program, the inputs and the weights, counts the units, and runs the program as
+/// written on each input. Then it searches for the least sets of each run, one after the other. Each search
+/// has the full limits on conflicts and sets. It stops at the first input with more sets or spent conflicts.
+/// Each derivation is handed to `steps`: the formula, and then each step as it is made.
 ///
-/// `SinkFailed` comes only where the faults of `steps` rose; `Memory` for want of memory. What was handed on before an
-/// error stays.
+/// `SinkFailed` comes only if the faults of `steps` rose; `Memory` if memory runs out. What was handed on
+/// before an error stays.
 pub fn rank_texts<D: StepSink + Drop, R: SearchRules + Drop>(
     alloc: Global,
     job: &RankJob,

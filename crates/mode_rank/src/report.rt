@@ -4,12 +4,12 @@ ghost use Rattle.std.specs.Prelude.{◌≡◌, ◌++◌, Some, flat_map, IfOk, O
 ghost use Rattle.mode_rank.specs.Report.{entry_line, line_of, ranked_text};
 
 use ba_rank::Ranked;
-use ba_report::{Lines, info_of, push_place, push_source};
+use ba_report::{Lines, info_of, push_source, push_statement_head};
 use ba_text::push_number;
 use ba_tree::tree::{Program, StmtInfo};
 use std::alloc::{AllocError, Global};
 
-/// Adds the line of a statement that so many inputs of all have in one of their sets.
+/// Appends the line of a statement with its count and the number of inputs.
 fn push_info(
     lines: &Lines,
     all: u64,
@@ -25,11 +25,11 @@ fn push_info(
     text.extend_from_slice(b"/")?;
     push_number(all, text)?;
     text.extend_from_slice(b" ")?;
-    push_place(info, text)?;
+    push_statement_head(info, text)?;
     push_source(lines.at(info.at.line), text)
 }
 
-/// Adds the line of an entry over so many inputs.
+/// Appends the line of an entry, with the number of inputs.
 fn push_entry(
     lines: &Lines,
     program: &Program,
@@ -46,7 +46,7 @@ fn push_entry(
     }
 }
 
-/// Adds the lines of entries over so many inputs.
+/// Appends the lines of entries, with the number of inputs.
 fn push_entries(
     lines: &Lines,
     program: &Program,
@@ -63,10 +63,10 @@ fn push_entries(
     Ok(())
 }
 
-/// The report of a ranking over so many inputs. Its first line has their number. Each entry has a line: the number of
+/// The report of a ranking. Its first line has the number of inputs. Each entry has a line: the number of
 /// inputs that have its statement, and the statement's position, kind and source line.
 ///
-/// The one error is want of memory.
+/// The only error is out of memory.
 pub fn ranked_text(
     alloc: Global,
     source: &[u8],

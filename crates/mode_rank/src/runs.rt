@@ -44,7 +44,7 @@ fn refused(fault: InputFault, line: Option<u64>) -> Stop
     })
 }
 
-/// The inputs that a text writes for a program, one a line; else the refusal of the text, or want of memory.
+/// The inputs that a text writes for a program, one a line; else the refusal of the text, or out of memory.
 fn read_all(alloc: Global, program: &Program, text: &[u8]) -> Result<Items<InputLine>, Stop>
     requires { length text.now ≤ limit }
     ensures ok { IfOk result (λ inputs. inputs ≡ inputs_of program.now text.now) }
@@ -68,7 +68,7 @@ fn read_all(alloc: Global, program: &Program, text: &[u8]) -> Result<Items<Input
     }
 }
 
-/// Whether the run on this input fails; else the answer that it doesn't, or goes past a bound.
+/// Succeeds if the run on this input fails. Else the answer: it doesn't, or exceeds a bound.
 fn check_run(
     alloc: Global,
     program: &Program,
@@ -83,7 +83,7 @@ fn check_run(
     check_failing(program, Some(entry.line), outcome)
 }
 
-/// Whether the runs on all inputs fail; else the answer of the first that doesn't.
+/// Succeeds if the runs on all inputs fail. Else the answer of the first that doesn't.
 fn check_runs(
     alloc: Global,
     program: &Program,
@@ -100,11 +100,11 @@ fn check_runs(
     Ok(())
 }
 
-/// The runs of these texts, where each of them fails within the bounds; else the answer that is given at once, or
-/// want of memory.
+/// The runs of these texts, if each of them fails within the bounds. Else the answer before any search, or
+/// out of memory.
 ///
-/// In this order it reads the program, the inputs and the weights, counts the units, and runs the program as written
-/// on each input.
+/// In this order it reads the program, the inputs and the weights, counts the units, and runs the program as
+/// written on each input.
 pub fn read_runs(alloc: Global, texts: &Texts, bounds: Bounds) -> Result<Runs, Stop>
     requires short { AreShort texts.now }
     requires bounds { are_bounds bounds ≡ true }

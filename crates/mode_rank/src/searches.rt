@@ -22,21 +22,21 @@ use ba_search::{SearchError, SearchRules};
 use ba_steps::StepSink;
 use std::alloc::{AllocError, Global};
 
-/// What the search over one input comes to.
+/// What the search over one input finds.
 #[derive(Drop)]
 pub enum Found {
-    /// To these sets.
+    /// These sets.
     Sets(Items<Items<u32>>),
-    /// To this answer, and no other search is begun.
+    /// This answer; no other search is begun.
     Stopped(Answer),
 }
 
-/// What the searches over all inputs come to.
+/// What the searches over all inputs find.
 #[derive(Drop)]
 pub enum Searched {
-    /// To these lists of sets, one for each input.
+    /// These lists of sets, one for each input.
     Lists(Items<Items<Items<u32>>>),
-    /// To this answer.
+    /// This answer.
     Stopped(Answer),
 }
 
@@ -51,7 +51,7 @@ fn sets_of(alloc: Global, found: &[FoundSet]) -> Result<Items<Items<u32>>, Alloc
     Ok(sets)
 }
 
-/// The sets of a verdict, none where there is no repair; or the answer of another verdict, with the line of the
+/// The sets of a verdict, none if there is no repair. For any other verdict its answer, with the line of the
 /// input.
 fn found_by(alloc: Global, job: &RankJob, line: u64, verdict: &Verdict) -> Result<Found, AllocError>
     ensures { IfOk result (TellsList job.now line verdict.now) }
@@ -73,7 +73,7 @@ fn found_by(alloc: Global, job: &RankJob, line: u64, verdict: &Verdict) -> Resul
 
 /// The least sets of the run on one input; the derivation is handed to `steps`.
 ///
-/// `SinkFailed` comes only where the faults of `steps` rose; `Memory` for want of memory.
+/// `SinkFailed` comes only if the faults of `steps` rose; `Memory` if memory runs out.
 fn search_one<D: StepSink + Drop, R: SearchRules>(
     alloc: Global,
     job: &RankJob,
@@ -104,10 +104,10 @@ fn search_one<D: StepSink + Drop, R: SearchRules>(
     Ok(found_by(alloc, job, entry.line, &verdict)?)
 }
 
-/// The least sets of the runs on all inputs, in order; the derivations are handed to `steps`. It stops at the first
-/// input that has more sets than may be listed, or whose search spends the conflicts that it may have.
+/// The least sets of the runs on all inputs, in order; the derivations are handed to `steps`. It stops at the
+/// first input with more sets than may be listed, or with spent conflicts.
 ///
-/// `SinkFailed` comes only where the faults of `steps` rose; `Memory` for want of memory.
+/// `SinkFailed` comes only if the faults of `steps` rose; `Memory` if memory runs out.
 pub fn search_all<D: StepSink + Drop, R: SearchRules>(
     alloc: Global,
     job: &RankJob,

@@ -1,4 +1,4 @@
--- What a run comes to is one of its program's meaning; and where it doesn't fail, that is said of it.
+-- What a run comes to is one of its program's meaning; and if it doesn't fail, that is said of it.
 
 use Rattle.std.proofs.Common.{◌≡◌, ◌∙◌, None, option_map, refl, ap}
 use Rattle.ba_answers.specs.declared.answers.Answer.TheVariants as answer

@@ -1,4 +1,4 @@
--- WHAT THE RUN of a program comes to.
+-- THE ANSWER OF A RUN of a program.
 
 use Rattle.std.specs.Prelude.{Option, None, option_map, List}
 use Rattle.ba_answers.specs.declared.answers.Answer.{Answer}
@@ -18,13 +18,13 @@ use Rattle.mode_run.specs.declared.running.RunJob.{RunJob}
 abbrev pub files_of : RunJob → List Named
 files_of j = files_for j.program file.Input j.input None
 
--- where it fails; or that it doesn't fail, or goes past a bound
+-- the run fails; or it doesn't, or exceeds a bound
 abbrev pub end_answer : Program → Outcome → Option Answer
 end_answer p (outcome.AssertFails stmt) = option_map (λ at. answer.AssertFails at) (position_of p stmt)
 end_answer p (outcome.Trap stmt) = option_map (λ at. answer.Trap at) (position_of p stmt)
 end_answer p end = unfailing p None end
 
--- THE ANSWER, which comes at once
+-- THE ANSWER, which comes without a search
 abbrev pub run_answer : Bounds → Texts → Program → Option Answer
 run_answer bounds x p =
     at_once (input_refusal p x.input) x.weights bounds (end_answer p (run_in bounds x p)) p

@@ -7,7 +7,7 @@ ghost use Rattle.ba_cases.specs.declared.texts.Texts.{Texts};
 ghost use Rattle.ba_tree.specs.declared.run.Bounds.{Bounds};
 ghost use Rattle.mode_run.specs.Runs.{run_answer};
 
-/// The texts of a run come to at most one answer.
+/// Law: the texts of a run have at most one answer.
 pub fn one_run_answer()
     ensures { (bounds : Bounds) (x : Texts) (a b : Answer)
         → IsAtOnce x.program (run_answer bounds x) a

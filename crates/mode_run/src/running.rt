@@ -22,14 +22,14 @@ use ba_tree::run::{Bounds, Outcome};
 use ba_tree::tree::Program;
 use std::alloc::Global;
 
-/// A program that is to be run.
+/// The job of running a program.
 #[derive(Drop)]
 pub struct RunJob<'a> {
     /// The file of the program.
     pub program: Text<'a>,
     /// The file of the input.
     pub input: Text<'a>,
-    /// How far the run may go.
+    /// The bounds of the run.
     pub bounds: Bounds,
 }
 
@@ -42,7 +42,7 @@ impl<'a> RunJob<'a> {
     }
 }
 
-/// What a run comes to that ends so.
+/// The answer for a run with this outcome.
 fn end_answer(program: &Program, outcome: Outcome) -> Result<Answer, Stop>
     requires unchosen { outcome ≢ Outcome.WrongChoices }
     requires named { NamesStatement program.now outcome }
@@ -58,7 +58,7 @@ fn end_answer(program: &Program, outcome: Outcome) -> Result<Answer, Stop>
     }
 }
 
-/// What the run of a program comes to that has these texts.
+/// The answer for the run of these texts.
 fn run_case(alloc: Global, texts: &Texts, bounds: Bounds) -> Result<Answer, Stop>
     requires short { AreShort texts.now }
     requires bounds { are_bounds bounds ≡ true }
@@ -73,10 +73,10 @@ fn run_case(alloc: Global, texts: &Texts, bounds: Bounds) -> Result<Answer, Stop
     end_answer(&program, outcome)
 }
 
-/// Where the run of a program fails, or that it doesn't fail or goes past a bound; or why there is no run.
+/// Where the run of a program fails; or that it doesn't fail or exceeds a bound; or why there is no run.
 ///
-/// In this order it reads the program and the input, counts the units, and runs the program as written.
-/// The one error is want of memory.
+/// In this order it reads the program and the input, counts the units, and runs the program as written. The
+/// only error is out of memory.
 pub fn run_texts(alloc: Global, job: &RunJob, texts: &Texts) -> Result<Answer, SearchError>
     requires short { AreShort texts.now }
     requires bounds { are_bounds job.now.bounds ≡ true }

@@ -2,5 +2,6 @@
 
 use Rattle.ba_cert.specs.declared.head.CertHead.{CertHead}
 
+-- the settings of the tests
 abbrev pub settings : CertHead
 settings = record { bounds = record { turns = 5; frames = 16 }; conflicts = 200000; sets = 1000 }

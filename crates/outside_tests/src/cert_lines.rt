@@ -9,8 +9,8 @@ use std::alloc::Global;
 use std::panic::Expect;
 use std::process::Abort;
 
-/// A step without its types: its kind, and two lists of numbers. A literal is its variable with its sign; in a run, 1000 stands
-/// for a choice that keeps the statement and 2000 begins one that takes the values after it.
+/// A step without its types: its kind, and two lists of numbers. A literal is its variable with its sign. In
+/// a run, 1000 is a choice that keeps the statement, and 2000 begins one that takes the values after it.
 #[derive(Drop)]
 struct Plain {
     kind: &'static str,
@@ -154,7 +154,7 @@ fn is_plain(step: &Plain, kind: &str, first: &[i64], second: &[i64]) -> bool {
     step.kind == kind && step.first.as_slice() == first && step.second.as_slice() == second
 }
 
-/// Whether a text is this line with a line feed behind it.
+/// Whether a text is this line with a line feed after it.
 fn is_line(text: &[u8], line: &str) -> bool {
     match text.split_last() {
         Some((feed, front)) => *feed == b'\n' && front == line.as_bytes(),
@@ -206,7 +206,7 @@ static SETTINGS: [(&str, u32, u32, u64, u32); 5] = [
     ),
 ];
 
-/// Whether a line is read as these settings, and they are written as it, behind the first line.
+/// Whether a line is read as these settings, and they are written as it, after the first line.
 fn are_read_and_written(rt: &impl Abort, alloc: Global, line: &str, head: &CertHead) -> bool {
     let text = head_text(alloc, head).expect(rt, "memory");
     match text.as_slice().strip_prefix(b"bugassist 2\n".as_slice()) {

@@ -107,8 +107,8 @@ fn a_refused_sink_refuses_from_then_on(rt: HostRuntime) {
     let alloc = rt.alloc();
     let learn = b"l 1 0 0".as_slice();
     let end = b"e l 0 0".as_slice();
-    // Call 0 begins the file, 1 adds the first two lines, 2 and 3 the steps; the fault comes after half
-    // of `e l 0 0` and its line feed.
+    // Call 0 begins the file, 1 adds the first two lines, 2 and 3 the steps. The fault comes after half of
+    // `e l 0 0` and its line feed.
     for (lines, last) in [
         ([learn, end].as_slice(), SinkError::Failed),
         ([learn, end, learn].as_slice(), SinkError::Memory),
@@ -135,7 +135,7 @@ fn a_fault_in_the_first_lines_is_answered(rt: HostRuntime) {
         let answer = begin_text(rt.alloc(), &mut world, "c", &settings());
         assert_eq!(rt; answer, Err(SinkError::Failed), "call {call}");
     }
-    // Half of both lines is kept where they are added by one call that fails.
+    // Half of both lines is kept if they are added by one call that fails.
     let mut world = world_of(&rt, rt.alloc(), &[1]);
     let answer = begin_text(rt.alloc(), &mut world, "c", &settings());
     assert_eq!(rt; answer, Err(SinkError::Failed));

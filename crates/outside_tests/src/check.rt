@@ -1,4 +1,5 @@
-//! Certificates beside what they say, and damaged ones beside the first line that is refused, worked out by hand from the table of steps.
+//! Certificates beside what they say, and damaged ones beside the first line that is refused, worked out by
+//! hand from the table of steps.
 
 use crate::support::problems::{Problem, array_example, feed_all, judge, settings};
 use crate::support::programs::OLD_HEAD;
@@ -35,7 +36,8 @@ const NONE: &[&[i64]] = &[&[1], &[-1]];
 /// The two lines of version 2, with the settings of five conflicts and nine sets.
 const HEAD: &str = "bugassist 2\nb 1 16 5 9\n";
 
-/// The array example behind the head: its core, the three sets, each with a run, and that there is no further set.
+/// The array example after the head: its core, the three sets, each with a run, and that there is no further
+/// set.
 const WHOLE: &str = "c -1 -3 -4 0 1 0
 s 1 0 t 1
 s 3 0 t 2
@@ -73,10 +75,10 @@ fn refused_line(told: &Result<Confirmed, CheckError>) -> Option<u64> {
     }
 }
 
-/// What is shown, the text behind the head, how many conflicts and sets there may be, and the answer.
+/// What is shown, the text after the head, how many conflicts and sets there may be, and the answer.
 type Row = (&'static str, &'static str, u64, u32, Answer);
 
-/// A text behind a head.
+/// A text after a head.
 fn behind_head(rt: &impl Abort, alloc: Global, head: &[u8], body: &str) -> Vec<u8> {
     let mut text = Vec::new(alloc);
     text.extend_from_slice(head).expect(rt, "memory");
@@ -125,7 +127,7 @@ fn first_wrong(
         ) {
             return Some(*shown);
         }
-        // Behind the two lines of version 2 it is the same, one line later.
+        // After the two lines of version 2 it is the same, one line later.
         let own = head_of(settings(*conflicts, *sets));
         let head = head_text(alloc, &own).expect(rt, "memory");
         let text = behind_head(rt, alloc, head.as_slice(), body);
@@ -145,7 +147,7 @@ fn first_wrong(
     None
 }
 
-/// The same answer, where a line more stands before the steps.
+/// The same answer, if a line more is before the steps.
 fn a_line_later(answer: Answer) -> Answer {
     match answer {
         Refused(line, code) => Refused(line.saturating_add(1), code),
@@ -341,7 +343,7 @@ fn no_model_is_no_repair(rt: HostRuntime) {
     assert_eq!(rt; wrong, None);
 }
 
-/// Texts without a right head, and what they are answered where there may be no conflict and nine sets.
+/// Texts without a right head, and what they are answered if there may be no conflict and nine sets.
 static HEADLESS: [(&str, Answer); 44] = [
     ("", Refused(1, 21)),
     ("bugassist 1", Refused(1, 21)),
@@ -447,7 +449,8 @@ fn a_certificate_that_is_cut_off_ends_too_early(rt: HostRuntime) {
     assert!(rt; are_right);
 }
 
-/// Whether the example's certificate is refused where another digit is in the place of one of its bytes, in the line of that byte.
+/// Whether the example's certificate is refused if another digit is in the place of one of its bytes, in the
+/// line of that byte.
 fn are_refused_in_their_lines(rt: &impl Abort, alloc: Global, head: &str) -> bool {
     let problem = array_example(rt, alloc, SOME);
     let mut text = behind_head(rt, alloc, head.as_bytes(), WHOLE);

@@ -1,4 +1,4 @@
-//! Which runs of a program are good where some of its statements are relaxed, worked out by hand.
+//! Which runs of a program are good if some of its statements are relaxed, worked out by hand.
 
 use crate::support::problems::{array_example, settings};
 use ba_judge::ProgramJudge;
@@ -6,7 +6,8 @@ use ba_steps::RunJudge;
 use std::panic::Expect;
 use test_programs::choices_of;
 
-/// Runs of the array example on the input 1: the relaxed statements, the choices at their executions, and whether the run is good.
+/// Runs of the array example on the input 1: the relaxed statements, the choices at their executions, and
+/// whether the run is good.
 static RUNS: [(&[u32], &str, bool); 6] = [
     (&[1], "t 1", true),
     (&[1], "t 0", false),

@@ -1,7 +1,12 @@
-//! What no clause of the texts, of the outside and of the top call says: that calls succeed with ample memory, and that the definitions mean
-//! what they should; the words of a call and the text of weights; the lines of certificates, and what they come to; reports beside their texts,
-//! written by hand; how real files and calls that fail behave, and what a search hands on. What the program answers to whole calls is shown by
-//! the scripts of `trials`.
+//! Unit tests of texts, of the outside and of the top call, of what no clause says:
+//! - calls succeed with ample memory, and the definitions mean what they should
+//! - the words of a call and the text of weights
+//! - the lines of certificates, and their answers
+//! - reports beside their texts, written by hand
+//! - real files, calls that fail, and what a search hands on
+//! - the printed runs of single executions, read back and executed
+//!
+//! What the program answers to whole calls is shown by the scripts of `trials`.
 #![tactic(auto)]
 
 #[cfg(test)]
@@ -12,6 +17,8 @@ mod cert_sinks;
 mod check;
 #[cfg(test)]
 mod judge;
+#[cfg(test)]
+mod place_runs;
 #[cfg(test)]
 mod report;
 #[cfg(test)]

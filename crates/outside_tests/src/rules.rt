@@ -46,7 +46,8 @@ set 1:
   3:5 assignment | x = a + 1;
 ";
 
-/// The certificate of a search with this option, by the program's rules, or with its two restart rules exchanged.
+/// The certificate of a search with this option, by the program's rules, or with its two restart rules
+/// exchanged.
 fn certificate(rt: &impl Abort, alloc: Global, option: &str, exchanged: bool) -> Vec<u8> {
     let words = ["localise", "p.c", "in.txt", "--bound=1", "--cert=c", option];
     let mut world = world_of(rt, alloc, CUBE, "5", &[], 4096);

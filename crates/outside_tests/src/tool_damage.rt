@@ -41,7 +41,7 @@ fn last_number(printed: &[u8]) -> u64 {
     number
 }
 
-/// Asserts that a text is refused as one that ends too early, behind its whole lines.
+/// Asserts that a text is refused as one that ends too early, after its whole lines.
 fn assert_too_early(rt: &impl Abort, alloc: Global, front: &[u8]) {
     let mut world = counted_world(rt, alloc, front, &[]);
     let status = end(alloc, CHECKING, &mut world, &mut NoSink);
@@ -55,7 +55,8 @@ fn assert_too_early(rt: &impl Abort, alloc: Global, front: &[u8]) {
     );
 }
 
-/// Asserts that a text that was changed at this place is accepted, or refused no later than in the line of this place.
+/// Asserts that a text that was changed at this place is accepted, or refused no later than in the line of
+/// this place.
 fn assert_judged(rt: &impl Abort, alloc: Global, text: &[u8], place: usize) {
     let line = line_behind(text.get(..place).unwrap_or(text));
     let mut world = counted_world(rt, alloc, text, &[]);

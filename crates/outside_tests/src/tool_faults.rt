@@ -24,11 +24,11 @@ const CHECKING: &[&str] = &["check", "p.c", "in.txt", "c", "--bound=1"];
 
 const RUNNING: &[&str] = &["run", "p.c", "in.txt", "--bound=1"];
 
-/// What stands in the file of the certificate before it is begun.
+/// What is in the file of the certificate before it is begun.
 const OLD: &[u8] = b"old";
 
-/// Asserts that a file could not be read: that the call ended there, that nothing but its refusal was printed, or half of it where the
-/// next call fails too, and that the certificate is as it was.
+/// Asserts that a file could not be read, and that the call ended there. Only its refusal was printed, or
+/// half of it if the next call fails too. The certificate is as it was.
 fn assert_unread(
     rt: &impl Abort,
     world: &Counted<MemoryWorld>,
@@ -52,8 +52,8 @@ fn assert_unread(
     );
 }
 
-/// Asserts that a write failed: that the call ended there, and that what was printed and what the certificate holds are first bytes of
-/// what they are without a fault, unless the certificate is as it was.
+/// Asserts that a write failed, and that the call ended there. What was printed is a prefix of what is
+/// printed without a fault. So is the certificate, or it is as it was.
 fn assert_cut_off(
     rt: &impl Abort,
     world: &Counted<MemoryWorld>,
@@ -74,7 +74,8 @@ fn assert_cut_off(
     );
 }
 
-/// Asserts how a call ends in which these calls of the world fail, the first of which prints this where it is a read.
+/// Asserts how a call ends in which these calls of the world fail, the first of which prints this if it is a
+/// read.
 fn assert_failing(
     rt: &impl Abort,
     alloc: Global,
@@ -92,7 +93,8 @@ fn assert_failing(
     }
 }
 
-/// Asserts how a call ends in which each call of the world fails in turn, and the next one too where it is a read.
+/// Asserts how a call ends in which each call of the world fails in turn, and the next one too if it is a
+/// read.
 fn assert_each_failing(
     rt: &impl Abort,
     alloc: Global,
@@ -151,8 +153,8 @@ fn front_of(certificate: &[u8], steps: u64) -> &[u8] {
     certificate.get(..place).unwrap_or(certificate)
 }
 
-/// Asserts how a call ends whose sink fails in its call of this number, and that nothing is printed, and what stands in the file
-/// of the certificate.
+/// Asserts how a call ends whose sink fails in its call of this number. Nothing is printed. It also asserts
+/// what is in the file of the certificate.
 fn assert_sink_fault(rt: &impl Abort, alloc: Global, words: &[&str], number: u64, held: &[u8]) {
     let mut world = counted_world(rt, alloc, OLD, &[]);
     let mut sink = FailingSink::new(number);
@@ -306,7 +308,7 @@ static OLD_CERTIFICATE_WITHOUT_END: [EndlessFile; 3] = [
     ("c", OLD_HEAD, "e b\n"),
 ];
 
-/// Asserts that a certificate that never ends is read to its first refused line, the one behind its head.
+/// Asserts that a certificate that never ends is read to its first refused line, the one after its head.
 fn assert_read_so_far(
     rt: &impl Abort,
     alloc: Global,

@@ -154,8 +154,7 @@ fn writes_the_certificate_before_the_report(rt: HostRuntime) {
         lines.next().expect(&rt, "no settings"),
         b"b 1 16 200000 1000".as_slice()
     );
-    // Each step that was handed on has a line, which is read as it is written, and nothing stands
-    // behind the last.
+    // Each step that was handed on has a line, which is read as it is written, and nothing is after the last.
     for _ in steps.steps() {
         let line = lines.next().expect(&rt, "a line lacks");
         let step = read_line(alloc, line).expect(&rt, "memory");

@@ -86,7 +86,7 @@ static WEIGHED: [(&str, &str); 12] = [
     ("00003 0004", " 1 4 4 - 1 1"),
     // an assert and a line without a statement may be named
     ("4 5\n7 fixed\n1 2\n5 3\n99999 2", " 1 1 1 - 1 1"),
-    // a comment stands in a line of its own
+    // a comment is in a line of its own
     ("# c\n\n3 2\n# 3 4\n2 3", " 3 2 2 - 1 1"),
 ];
 

@@ -17,7 +17,7 @@ use std::panic::Expect;
 use std::process::Abort;
 use test_programs::examples::SUM;
 
-/// The list of a program and an input, within four frames and so many turns.
+/// The list of a program and an input, within four frames and so many iterations.
 fn list_of(rt: &impl Abort, alloc: Global, program: &str, input: &str, turns: u32) -> WordList {
     assert!(rt; 1 <= turns && turns <= 128);
     let program = program_of(rt, alloc, program);
@@ -77,13 +77,13 @@ fn first_value(list: &WordList) -> Option<&WordOp> {
     list.words.as_slice().get(*word as usize)
 }
 
-/// How many places the condition and the body of the sum have within three turns.
+/// How many places the condition and the body of the sum have within three iterations.
 fn places_of_sum(rt: &impl Abort, alloc: Global) -> (usize, usize) {
     let list = list_of(rt, alloc, SUM, "3", 3);
     (places_at(&list, 3), places_at(&list, 5))
 }
 
-/// How many places of the list stand at a statement.
+/// How many places of the list are at a statement.
 fn places_at(list: &WordList, stmt: u32) -> usize {
     let mut count = 0usize;
     for place in list.places.as_slice() {
@@ -94,7 +94,7 @@ fn places_at(list: &WordList, stmt: u32) -> usize {
     count
 }
 
-/// How many entries of the list are sums, and how many are elements, where each is computed twice.
+/// How many entries of the list are sums, and how many are elements, if each is computed twice.
 fn sums_and_elements(rt: &impl Abort, alloc: Global) -> (usize, usize) {
     let list = list_of(rt, alloc, TWICE, "1", 1);
     let mut sums = 0usize;

@@ -115,7 +115,7 @@ int main(void) {
 }
 ";
 
-/// A function whose one `return` stands at its end.
+/// A function whose one `return` is at its end.
 const LAST: &str = "int f(int x) {
     int y = x + 1;
     return y;

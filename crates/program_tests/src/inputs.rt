@@ -164,7 +164,7 @@ fn a_number_may_have_thousands_of_digits(rt: HostRuntime) {
     assert_eq!(rt; error, Some(InputError::OutOfRange(1)));
 }
 
-/// Whether inputs of one parameter stand in these lines, with these values.
+/// Whether inputs of one parameter are in these lines, with these values.
 fn are(inputs: &[InputLine], rows: &[(u64, i64)]) -> bool {
     inputs.len() == rows.len()
         && inputs.iter().zip(rows.iter()).all(|(input, row)| {
@@ -312,7 +312,7 @@ fn error_of_lines(rt: &impl Abort, alloc: Global, count: usize, end: &[u8]) -> O
     inputs_error_of(rt, alloc, INT, text.as_slice(), 1)
 }
 
-/// Counts of lines `3`, the end behind them, and the error.
+/// Counts of lines `3`, the end after them, and the error.
 static LONG: [(usize, &str, Option<InputsError>); 6] = [
     (64, "", None),
     (64, " \n# x", None),

@@ -1,4 +1,5 @@
-//! Runs beside their outcomes, which were worked out by hand: with some statements or a place relaxed, and with all statements relaxed.
+//! Runs beside their outcomes, which were worked out by hand: with some statements or a place relaxed, and
+//! with all statements relaxed.
 
 use crate::support::programs::{FIVE_LINES, SHORT, TWICE, choices_of, input_of, program_of};
 use ba_interp::run;
@@ -78,7 +79,8 @@ const BRANCH: &str = "int main(int x) {
 }
 ";
 
-/// A program, an input, the bound on turns, the choices of a run in which every statement may be relaxed, and whether it is good.
+/// A program, an input, the bound on iterations, the choices of a run in which every statement may be
+/// relaxed, and whether it is good.
 type Relaxed = (&'static str, &'static str, u32, &'static str, bool);
 
 static RELAXED: [Relaxed; 55] = [

@@ -5,9 +5,9 @@ use std::alloc::Global;
 use std::panic::Expect;
 use std::process::Abort;
 
-/// A front, a part so many times, a middle, another part as often, a back, how many times, and what the parser says: up to a hundred
-/// levels of parentheses, blocks, prefix operators, a chain, casts, controlled statements, branches, `switch`es and lists of constants
-/// are accepted.
+/// A front, a repeated part, a middle, another part repeated as often, a back, how many times, and what the
+/// parser says. A hundred levels are accepted: of parentheses, blocks, prefix operators, a chain, casts,
+/// controlled statements, branches, `switch`es and lists of constants.
 type Level = (
     &'static str,
     &'static str,

@@ -26,7 +26,8 @@ fn write_constant(rt: &impl Abort, text: &mut String, t: CType, value: i64) {
     write!(text, "{value}{letter}").expect(rt, "memory");
 }
 
-/// Writes a name as it is, a keyword or punctuator by its variant, a constant with its type, and `""` for a string.
+/// Writes a name as it is, a keyword or punctuator by its variant, a constant with its type, and `""` for a
+/// string.
 fn write_kind(rt: &impl Abort, text: &mut String, kind: &TokenKind) {
     match kind {
         TokenKind::Name(name) => write_name(rt, text, name.as_bytes()),
@@ -623,7 +624,7 @@ static BEHIND: [(&[Part], &str); 4] = [
     ),
 ];
 
-/// Names of 30,000 bytes stand in 1,000 tokens of each of 999 bodies: copies of them would take 30 GB.
+/// Names of 30,000 bytes are in 1,000 tokens of each of 999 bodies: copies of them would take 30 GB.
 static LONG_NAMES: [(&[Part], &str); 1] = [(
     &[
         Part::Times("#define A ", 1),

@@ -1,7 +1,9 @@
-//! Tests by examples of the front end and of programs: texts with their tokens or their first error, texts that the parser and typing accept
-//! or refuse, with the fault and its place; C programs with the outcomes and the units that were worked out by hand, texts of inputs, and what
-//! runs stand on; the nodes that stand for programs, without calls and then without loops; and the places and entries of the lists of words of
-//! runs. What types expressions have is shown by a run of `trials`.
+//! Unit tests by examples of the front end and of programs:
+//! - texts with their tokens or their first error
+//! - texts that the parser and typing accept or refuse, with the fault and its position
+//! - C programs with outcomes and units worked out by hand, and texts of inputs
+//! - the nodes of programs, without calls and then without loops
+//! - the places and entries of word lists What types expressions have is shown by a run of `trials`.
 #![tactic(auto)]
 
 #[cfg(test)]

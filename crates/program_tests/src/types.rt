@@ -1,4 +1,5 @@
-//! Faults of programs, row by row of the table, each beside a program that is accepted; the places are worked out by hand.
+//! Faults of programs, row by row of the table, each beside a program that is accepted; the places are worked
+//! out by hand.
 
 use crate::support::typing::first_difference;
 use std::alloc::Global;
@@ -765,7 +766,7 @@ fn faults_are_answered_at_their_places(rt: HostRuntime) {
     expect_answers(&rt, alloc, COUNTS.as_slice());
     // Lengths are constants from 1 to 256.
     expect_answers(&rt, alloc, LENGTHS.as_slice());
-    // `break` stands in loops and `switch`es, `continue` in loops; a `switch` has constant labels, each once.
+    // `break` is in loops and `switch`es, `continue` in loops; a `switch` has constant labels, each once.
     expect_answers(&rt, alloc, JUMPS.as_slice());
     expect_answers(&rt, alloc, LABELS.as_slice());
     // Tags and constants of enumerations have their scopes, constants their values.

@@ -60,7 +60,7 @@ int main(void) {
 }
 ";
 
-/// Two loops in one another and a row of divisions: 20,000 units for 57 turns.
+/// Two loops in one another and a row of divisions: 20,000 units for 57 iterations.
 const FULL: &str = "int main(int n) {
     while (n + (1 + 1))
         while (n + (1 + 1))
@@ -90,7 +90,7 @@ const TWO_OVER: &str = "int main(int n) {
 }
 ";
 
-/// A program, the bounds on turns and on frames, and the units.
+/// A program, the bounds on iterations and on frames, and the units.
 type Row<'a> = (&'a str, u32, u32, u32);
 
 /// The first row whose program has other units, if there is one.

@@ -12,7 +12,7 @@ use std::alloc::Global;
 use std::panic::Expect;
 use std::process::Abort;
 
-/// An execution of a statement in the present turns of these loops, outermost first, behind call 1.
+/// An execution of a statement in the present iterations of these loops, outermost first, after call 1.
 fn execution(rt: &impl Abort, alloc: Global, loops: &[u32], stmt: u32) -> Node {
     let mut path = Items::new(alloc);
     path.push(Step::Call(CallId(1))).expect(rt, "memory");
@@ -47,7 +47,7 @@ fn repeat(after: bool, head: Vec<Node>, body: Vec<Node>, step: Vec<Node>, stmt: 
     }
 }
 
-/// The tree of one variable with this body is, with so many turns, the tree that is written so.
+/// The tree of one variable with this body is, with so many iterations, the tree that is written so.
 fn expect_turns(rt: &impl Abort, alloc: Global, body: Vec<Node>, turns: u32, expected: &str) {
     let code = Code {
         vars: 1,

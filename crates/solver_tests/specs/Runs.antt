@@ -6,6 +6,7 @@ use Rattle.ba_choices.specs.declared.Choice.{Choice}
 use Rattle.ba_lits.specs.Literals.{Literal}
 use Rattle.ba_lits.specs.Satisfaction.{Soft}
 
+-- the run makes no choice
 abbrev pub is_empty_run : List ℕ → List Choice → Bool
 is_empty_run groups run = length run == 0
 

@@ -39,7 +39,7 @@ fn clauses_keep_their_literals_and_links(rt: HostRuntime) {
     assert_kept(&rt, &mut arena);
 }
 
-/// Adds three clauses, of which the second is dead; where it stood is answered.
+/// Adds three clauses, of which the second is dead; where it was is answered.
 fn add_three(rt: &impl Abort, arena: &mut Arena) -> ClauseRef {
     let _ = arena
         .add([lit(1), lit(2)].as_slice(), 7)
@@ -59,7 +59,7 @@ fn assert_live(rt: &impl Abort, alloc: Global, arena: &Arena) {
     assert!(rt; numbers.as_slice() == [7, 11].as_slice());
 }
 
-/// The clause behind the first one.
+/// The clause after the first one.
 fn after_first(arena: &Arena) -> Option<ClauseRef>
     ensures { IfSome result (λ clause. IsLive arena.now clause) }
 {

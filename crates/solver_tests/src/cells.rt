@@ -20,7 +20,7 @@ fn three() -> [Word; 3]
     [word(10), word(20), word(30)]
 }
 
-/// Indices with the number of the cell that is read: the first one's where the low 8 bits lead behind the last.
+/// Indices with the number of the cell that is read: the first one's if the low 8 bits lead past the last.
 static READ: [[u32; 2]; 5] = [[0, 10], [1, 20], [2, 30], [3, 10], [257, 20]];
 
 /// Whether each read gives its number.
@@ -34,7 +34,7 @@ fn reads(rt: &impl Abort, nodes: &mut Nodes) -> bool {
     true
 }
 
-/// Writes of a 7 by index and condition, with the numbers of the cells behind them.
+/// Writes of a 7 by index and condition, with the numbers of the cells after them.
 static WRITTEN: [(u32, bool, [u32; 3]); 4] = [
     (1, true, [10, 7, 30]),
     (2, false, [10, 20, 30]),

@@ -1,4 +1,4 @@
-//! Tests of the checker: rows of steps with the number of the error of each, 0 where it is allowed.
+//! Tests of the checker: rows of steps with the number of the error of each, 0 if it is allowed.
 
 ghost use Rattle.std.specs.Prelude.{◌≡◌, ◌<◌, ◌-◌, ◌^◌, true, length, All};
 ghost use Rattle.ba_lits.specs.Literals.{IsClause};
@@ -141,8 +141,8 @@ enum Kind {
     Spent,
 }
 
-/// A step to put, with its literals or the values that its run takes, its hints, numbers or groups, and the number of its
-/// error, 0 where it is allowed.
+/// A step to put: its literals or its run's values, its hints, numbers or groups, and the number of its
+/// error, 0 if allowed.
 type Row<'a> = (Kind, &'a [i64], &'a [u64], u8);
 
 /// The step of a row, which is a clone.
@@ -197,8 +197,8 @@ fn judge(rt: &impl Abort, alloc: Global) -> ListJudge {
     judge
 }
 
-/// Puts a step through a checker, and answers the number of the error, 0 where it was allowed, and 99 for want of memory
-/// or where the step isn't formed.
+/// Puts a step to a checker, and answers the number of the error. It is 0 for an allowed step, and 99 if
+/// memory runs out or the step isn't formed.
 fn put(checker: &mut Checker, step: &CertStep, judge: &ListJudge) -> u8 {
     if !is_formed(step) {
         return 99;
@@ -209,7 +209,8 @@ fn put(checker: &mut Checker, step: &CertStep, judge: &ListJudge) -> u8 {
     }
 }
 
-/// Puts the steps of the rows one after the other. The place of the first that ends otherwise than its row says, or none.
+/// Puts the steps of the rows one after the other. The place of the first that ends otherwise than its row
+/// says, or none.
 fn put_all(rt: &impl Abort, alloc: Global, checker: &mut Checker, rows: &[Row]) -> Option<usize> {
     let judge = judge(rt, alloc);
     for (place, row) in rows.iter().enumerate() {
@@ -250,8 +251,8 @@ fn softs_are(checker: &Checker, want: &[(i64, u32)]) -> bool {
             .all(|(s, w)| s.0 == lit(w.0) && s.1 == w.1)
 }
 
-/// Variables, clauses, soft literals, the stated number of conflicts; the steps; and then the bound, the clauses from a
-/// number on, and the present soft literals.
+/// Variables, clauses, soft literals, and the stated number of conflicts; then the steps. At last the bound,
+/// the clauses from a number on, and the present soft literals.
 type Case<'a> = (
     u64,
     &'a [&'a [i64]],
@@ -290,7 +291,7 @@ fn check(rt: &impl Abort, alloc: Global, case: &Case) {
     assert!(rt; clauses_are(&checker, first, after) && softs_are(&checker, left));
 }
 
-/// Steps with cores, and what stands after them.
+/// Steps with cores, and what follows them.
 static SPLITS: [Case; 3] = [
     (
         2,
@@ -561,8 +562,8 @@ fn along(rt: &impl Abort, alloc: Global, i: u32, j: u32) -> CertStep {
     CertStep::Learn { lits, hints }
 }
 
-/// Learns "not i, or j, or 61" for j from i + 2 to 60 and i in this order, from one place to another. How many steps were
-/// allowed.
+/// Learns "not i, or j, or 61" for j from i + 2 to 60 and i in this order, from one place to another. How
+/// many steps were allowed.
 fn learn_along(rt: &impl Abort, alloc: Global, checker: &mut Checker, from: u32, to: u32) -> u32 {
     let judge = ListJudge::new(alloc);
     let mut place = 0u32;
@@ -586,7 +587,7 @@ static EARLY: [Row; 4] = [
     (Kind::Learn, &[-1, 3, 61], &[1, 2], 10),
 ];
 
-/// Steps behind it.
+/// Steps after it.
 static LATE: [Row; 7] = [
     (Kind::Delete, &[], &[60], 0),
     (Kind::Delete, &[], &[60, 61], 5),

@@ -27,10 +27,11 @@ enum Circuit {
     Different,
 }
 
-/// The circuits, each with its variables and its clauses: of a sum, 14 clauses for each place but the lowest, which has
-/// 7, and the highest, which has no carry and 8; of `less`, a majority has three clauses in one direction, and the
-/// `and` at the lowest place two; of the equal words, two clauses and a unit clause for each place; of the different
-/// ones, two for each place, and one over all.
+/// The circuits, each with its variables and its clauses:
+/// - a sum has 14 clauses for each bit but the lowest, which has 7, and the highest, which has no carry and 8
+/// - in `less` a majority has three clauses in one direction, and the `and` at the lowest bit two
+/// - equal words have two clauses and a unit clause for each bit
+/// - different words have two for each bit, and one over all
 static SIZES: [(Circuit, u64, u64); 5] = [
     (Circuit::Sum, 158, 435),
     (Circuit::Product, 2151, 7945),

@@ -52,7 +52,7 @@ enum End {
     Wrong,
 }
 
-/// The weights of the soft literals that are false where values are given by the bits of a number.
+/// The weights of the soft literals that are false if values are given by the bits of a number.
 fn cost(softs: &[(Lit, u32)], bits: u64) -> u64 {
     let mut cost = 0u64;
     for soft in softs {
@@ -63,7 +63,7 @@ fn cost(softs: &[(Lit, u32)], bits: u64) -> u64 {
     cost
 }
 
-/// The end that a find is. It is wrong where the model isn't one of that cost.
+/// The end that a find is. It is wrong if the model isn't one of that cost.
 fn end_of(formula: &Formula, softs: &[(Lit, u32)], found: &Found) -> End {
     match found {
         Found::Least { weight, model } => {
@@ -79,7 +79,8 @@ fn end_of(formula: &Formula, softs: &[(Lit, u32)], found: &Found) -> End {
     }
 }
 
-/// Variables, clauses, the weights of the first variables, the stated number of conflicts, and how the search ends.
+/// Variables, clauses, the weights of the first variables, the stated number of conflicts, and how the search
+/// ends.
 type Row<'a> = (u64, &'a [&'a [i64]], &'a [u32], u64, End);
 
 /// Finds the least cost of a row's formula.
@@ -158,8 +159,8 @@ fn lesser(least: End, cost: u64) -> End {
     }
 }
 
-/// Finds the least cost of random formulas with so many clauses, and compares it with that by enumeration. How many have
-/// a model.
+/// Finds the least cost of random formulas with so many clauses, and compares it with that by enumeration.
+/// How many have a model.
 fn try_random(rt: &impl Abort, alloc: Global, clauses: u64, below: u64) -> u64 {
     let mut models = 0u64;
     for seed in 1..41 {

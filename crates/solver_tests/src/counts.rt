@@ -6,7 +6,7 @@ use ba_nodes::Nodes;
 use std::alloc::Global;
 use std::process::Abort;
 
-/// The second operands that are counted, where nothing stands for a free word.
+/// The second operands that are counted, if nothing stands for a free word.
 static SECOND: [Option<u32>; 9] = [
     None,
     Some(0),
@@ -73,7 +73,7 @@ fn gates(rt: &impl Abort, alloc: Global, operator: Operator, second: Option<u32>
     added(rt, &mut nodes, operator, second)
 }
 
-/// The gates that there are behind that circuit.
+/// The gates that there are after that circuit.
 fn added(rt: &impl Abort, nodes: &mut Nodes, operator: Operator, second: Option<u32>) -> u64 {
     let a = free_word(rt, nodes);
     let b = match second {

@@ -32,7 +32,8 @@ enum End<'a> {
     Spent,
 }
 
-/// Groups with these weights, by ascending numbers from 1; the selector of each is the variable of its number.
+/// Groups with these weights, by ascending numbers from 1; the selector of each is the variable of its
+/// number.
 fn groups_of(rt: &impl Abort, alloc: Global, weights: &[u32]) -> Items<Group> {
     let mut groups = Items::new(alloc);
     for (place, weight) in weights.iter().enumerate() {
@@ -132,8 +133,8 @@ fn ends_so(verdict: &Verdict, end: &End) -> bool {
     }
 }
 
-/// What is shown, variables, clauses, the weights of the groups, the stated number of conflicts, how many sets may be
-/// listed, and how the search ends. The first clause says that some selector is false.
+/// What is shown, variables, clauses, the weights of the groups, the limits on conflicts and listed sets, and
+/// how the search ends. The first clause says that some selector is false.
 type Row<'a> = (&'a str, u64, &'a [&'a [i64]], &'a [u32], u64, u32, End<'a>);
 
 /// Searches for the sets of a row's formula.

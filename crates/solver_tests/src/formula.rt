@@ -34,8 +34,8 @@ const SHORT: &str = "int main(int a) {
 }
 ";
 
-/// A greatest element that is sought up to the last but one, and asserted over all. The conditions of its loops, the statements 3 and 10,
-/// stand in the lines 9 and 23.
+/// A greatest element that is sought up to the last but one, and asserted over all. The conditions of its
+/// loops, the statements 3 and 10, are in the lines 9 and 23.
 const GREATEST: &str = "#include <assert.h>
 #include <stdio.h>
 
@@ -83,15 +83,15 @@ static GREATEST_GROUPS: [(u32, u32); 13] = [
     (14, 1),
 ];
 
-/// The smallest sets that could repair its run: a greater element is found, or asserts are left out. The assignment in the branch
-/// repairs where the branch is taken too.
+/// The smallest sets that could repair its run: a greater element is found, or asserts are left out. The
+/// assignment in the branch repairs if the branch is taken too.
 static GREATEST_REPAIRS: [&[u32]; 8] = [&[1], &[2], &[3], &[4], &[8], &[10], &[14], &[12, 13]];
 
 /// The largest sets that couldn't.
 static GREATEST_OTHERS: [&[u32]; 2] = [&[6, 7, 9, 11, 12], &[6, 7, 9, 11, 13]];
 
-/// A program, an input, the bound on turns, weights, the groups of the formula as statements with their weights, and the repairs: a set of
-/// statements could repair the run exactly where one of these is among it.
+/// A program, an input, the bound on iterations, weights, the groups of the formula as statements with their
+/// weights, and the repairs. A set of statements could repair the run exactly if it contains one of these.
 #[derive(Clone, Copy)]
 struct Row {
     program: &'static str,
@@ -154,7 +154,7 @@ static ROWS: [Row; 15] = [
         groups: &[(1, 1), (2, 1), (4, 1)],
         repairs: &[&[1], &[2]],
     },
-    // Within three turns steps alone come to 1 + 2 + 2, and with another start to 2 + 2 + 2.
+    // Within three iterations steps alone come to 1 + 2 + 2, and with another start to 2 + 2 + 2.
     Row {
         program: SUM,
         input: "3",
@@ -163,7 +163,7 @@ static ROWS: [Row; 15] = [
         groups: &[(1, 1), (2, 1), (3, 1), (4, 1), (5, 1)],
         repairs: &[&[1], &[3], &[5], &[2, 4]],
     },
-    // Within four turns steps alone come to 1 + 2 + 2 + 1.
+    // Within four iterations steps alone come to 1 + 2 + 2 + 1.
     Row {
         program: SUM,
         input: "3",
@@ -234,7 +234,8 @@ static ROWS: [Row; 15] = [
     },
 ];
 
-/// The groups of a formula as statements with their weights. None where a group is not that of the statement of its number.
+/// The groups of a formula as statements with their weights. None if a group is not that of the statement of
+/// its number.
 fn groups_of(rt: &impl Abort, alloc: Global, encoded: &Encoded) -> Option<Vec<(u32, u32)>> {
     let mut groups = Vec::new(alloc);
     for group in 0..encoded.groups() {

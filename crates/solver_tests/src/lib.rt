@@ -1,7 +1,9 @@
-//! Tests of circuits, formulas and the solver: values of the circuits against those of a C compiler, and the gates that each circuit takes;
-//! formulas of gates against the gates' truth tables, and their sizes; the bits of word lists, and their formulas; the solver's crates and what
-//! stands on them: all least sets of formulas without executions, and the formulas of programs beside the sets of statements that could
-//! repair their runs.
+//! Unit tests of circuits, formulas and the solver:
+//! - the circuits' values against those of a C compiler, and their gates
+//! - formulas of gates against truth tables, and their sizes
+//! - the bits of word lists, and their formulas
+//! - all least sets of formulas without executions
+//! - the formulas of programs, beside the sets of statements that could repair their runs
 #![tactic(auto)]
 
 #[cfg(test)]

@@ -309,7 +309,8 @@ static REMAINDERS: [[u32; 10]; 20] = [
     [3, 0, 1, 3, 255, 37074, 1, 2147483647, 6, 0],
 ];
 
-/// The first operand at which the circuits of constants and of free words differ from a table, if there is one.
+/// The first operand at which the circuits of constants and of free words differ from a table, if there is
+/// one.
 fn first_difference(
     rt: &impl Abort,
     alloc: Global,

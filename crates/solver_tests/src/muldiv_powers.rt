@@ -1,4 +1,5 @@
-//! Signed quotients and remainders by constant powers of two and their opposites, as a C compiler computes them.
+//! Signed quotients and remainders by constant powers of two and their opposites, as a C compiler computes
+//! them.
 
 use crate::support::operators::{Operator, circuit};
 use crate::support::words::{free_word, number_at, word};
@@ -17,7 +18,8 @@ static DIVISORS: [u32; 8] = [
     2, 8, 256, 1073741824, 4294967295, 4294967294, 4294967040, 2147483648,
 ];
 
-/// The quotients, modulo 2^32; that of the least number by -1 has no value in C, and is the least number here.
+/// The quotients, modulo 2^32; that of the least number by -1 has no value in C, and is the least number
+/// here.
 static QUOTIENTS: [[u32; 16]; 8] = [
     [
         0, 0, 3, 4, 127, 128, 1073741823, 0, 4294967295, 4294967293, 4294967292, 4294967292,

@@ -47,7 +47,7 @@ fn turned_gates(rt: &impl Abort, nodes: &mut Nodes, a: Bit, b: Bit, c: Bit) -> [
     ]
 }
 
-/// The values of the gates where the three free bits are the digits of the row.
+/// The values of the gates if the three free bits are the digits of the row.
 static ROWS: [[bool; 5]; 8] = [
     [false, false, false, false, false],
     [false, true, true, false, false],
@@ -83,7 +83,8 @@ fn folds(rt: &impl Abort, nodes: &mut Nodes, a: Bit, b: Bit) -> bool
     same == a && none == Nodes::constant(false) && choice == one
 }
 
-/// The gates of three free bits, where each is met again: an `and` and an `or` count one each, the others three.
+/// The gates of three free bits, where each is met again: an `and` and an `or` count one each, the others
+/// three.
 fn gates_met_again(rt: &impl Abort, nodes: &mut Nodes) -> Option<[Bit; 5]> {
     let a = nodes.free().expect(rt, "memory");
     let b = nodes.free().expect(rt, "memory");

@@ -1,4 +1,5 @@
-//! The formula of a program where single executions are relaxed, and which runs are good then, worked out by hand.
+//! The formula of a program where single executions are relaxed, and which runs are good then, worked out by
+//! hand.
 
 use crate::formula::has_repair;
 use ba_formula::{PlaceFormula, place_formula_of};
@@ -35,7 +36,8 @@ struct Failing {
     formula: PlaceFormula,
 }
 
-/// The sum of the numbers up to 2, which should be 6: the loop's body is executed twice, and may be three times.
+/// The sum of the numbers up to 2, which should be 6: the loop's body is executed twice, and may be three
+/// times.
 fn sum(rt: &impl Abort, alloc: Global) -> Failing {
     let program = program_of(alloc, SUM).expect(rt, "a program");
     let input = read_input(alloc, &program, b"3").expect(rt, "an input");

@@ -11,7 +11,8 @@ use std::panic::Expect;
 use std::process::Abort;
 use test_formulas::{NoRuns, formula_of, literal, lits, pigeons, random};
 
-/// How a search ends: with the values of a model as the bits of a number, a core with so many literals, or spent.
+/// How a search ends: with the values of a model as the bits of a number, a core with so many literals, or
+/// spent.
 #[derive(Clone, Copy, Debug, PartialEq, Eq)]
 enum End {
     Model(u64),
@@ -39,8 +40,8 @@ fn deleted(checker: &Checker) -> u64 {
     count
 }
 
-/// How a search ends that keeps learnt clauses of two literals alone, how many conflicts there were, and how many clauses
-/// were deleted.
+/// How a search ends that keeps learnt clauses of two literals alone, how many conflicts there were, and how
+/// many clauses were deleted.
 fn ends(
     rt: &impl Abort,
     alloc: Global,
@@ -63,7 +64,8 @@ fn ends(
     (end_of(&answer), checker.conflicts(), deleted(checker))
 }
 
-/// Variables, clauses, assumptions, the stated number of conflicts, how the search ends, and how many conflicts there were.
+/// Variables, clauses, assumptions, the stated number of conflicts, how the search ends, and how many
+/// conflicts there were.
 type Row<'a> = (u64, &'a [&'a [i64]], &'a [i64], u64, (End, u64));
 
 /// Searches in a row's formula.
@@ -134,8 +136,8 @@ fn has_model(formula: &Formula, assumptions: &[Lit], end: End) -> Option<bool> {
     }
 }
 
-/// Searches in random formulas of eight variables with so many clauses, each under one assumption. How many times there
-/// was a model.
+/// Searches in random formulas of eight variables with so many clauses, each under one assumption. How many
+/// times there was a model.
 fn try_random(rt: &impl Abort, alloc: Global, clauses: u64) -> u64 {
     let mut models = 0u64;
     for seed in 1..21 {

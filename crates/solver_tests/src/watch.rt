@@ -23,7 +23,7 @@ fn watch_of(rt: &impl Abort, alloc: Global, variables: u64, clauses: &[&[i64]]) 
     watch
 }
 
-/// Propagates, and decides a literal where no clause is false and it has no value.
+/// Propagates, and decides a literal if no clause is false and it has no value.
 fn decide(watch: &mut Watch, lit: Lit) {
     if watch.propagate().is_some() {
         return;
@@ -52,7 +52,7 @@ pub fn decided(
     watch
 }
 
-/// How many literals are true after propagation; None where a clause is false.
+/// How many literals are true after propagation; None if a clause is false.
 fn propagated(watch: &mut Watch) -> Option<usize> {
     match watch.propagate() {
         Some(_) => None,
@@ -63,7 +63,7 @@ fn propagated(watch: &mut Watch) -> Option<usize> {
 /// Variables, clauses, literals that are decided, and how many are true then.
 type Row<'a> = (u64, &'a [&'a [i64]], &'a [i64], Option<usize>);
 
-/// Clauses, decisions, and the clause that is false behind them.
+/// Clauses, decisions, and the clause that is false after them.
 static FORMULAS: [Row; 7] = [
     (2, &[&[1, 2], &[-1, 2]], &[-2], None),
     (3, &[&[-1, 2], &[-2, 3], &[-1, -3]], &[1], None),

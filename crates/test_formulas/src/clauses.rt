@@ -6,9 +6,9 @@ use ba_lits::{Formula, Lit, is_clause};
 use ba_watch::Watch;
 use std::alloc::{AllocError, Global};
 
-/// The formula over so many variables without clauses.
+/// The formula over this many variables without clauses.
 ///
-/// The one error is want of memory.
+/// The only error is out of memory.
 pub fn without_clauses(alloc: Global, variables: u64) -> Result<Formula, AllocError> {
     let mut formula = Formula::new(alloc);
     for _ in 0..variables {
@@ -17,9 +17,9 @@ pub fn without_clauses(alloc: Global, variables: u64) -> Result<Formula, AllocEr
     Ok(formula)
 }
 
-/// Adds a clause, where the literals form one.
+/// Adds a clause, if the literals form one.
 ///
-/// The one error is want of memory.
+/// The only error is out of memory.
 pub fn add(formula: &mut Formula, lits: &[Lit]) -> Result<(), AllocError> {
     if is_clause(formula.variables(), lits) {
         formula.push(lits)?;
@@ -27,9 +27,10 @@ pub fn add(formula: &mut Formula, lits: &[Lit]) -> Result<(), AllocError> {
     Ok(())
 }
 
-/// The formula over so many variables with the clauses that are written as numbers, as far as they are clauses.
+/// The formula over this many variables with the clauses that are written as numbers; what is no clause is
+/// left out.
 ///
-/// The one error is want of memory.
+/// The only error is out of memory.
 pub fn formula_of(
     alloc: Global,
     variables: u64,
@@ -42,9 +43,10 @@ pub fn formula_of(
     Ok(formula)
 }
 
-/// Adds a clause to watch lists at level 0, where the literals form one. None where they don't, or the level is higher.
+/// Adds a clause to watch lists at level 0, if the literals form one. `None` if they don't, or the level is
+/// higher.
 ///
-/// The one error is want of memory.
+/// The only error is out of memory.
 pub fn add_clause(
     watch: &mut Watch,
     lits: &[Lit],

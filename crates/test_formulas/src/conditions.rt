@@ -1,4 +1,4 @@
-//! Tests of what calls of the solver assume.
+//! Tests of the conditions of the solver's calls.
 
 ghost use Rattle.std.specs.Prelude.{◌≡◌, ◌<◌, ◌≤◌, true, false};
 ghost use Rattle.ba_steps.specs.Steps.{AreNumbers};

@@ -6,9 +6,9 @@ use crate::source::Source;
 use ba_lits::{Formula, Lit};
 use std::alloc::{AllocError, Global};
 
-/// So many pigeons, each in one of so many holes, no two of them in the same.
+/// The pigeonhole formula: each pigeon is in a hole, and no two are in the same.
 ///
-/// The one error is want of memory.
+/// The only error is out of memory.
 pub fn pigeons(alloc: Global, pigeons: u64, holes: u64) -> Result<Formula, AllocError> {
     let mut formula = without_clauses(alloc, pigeons.saturating_mul(holes))?;
     for pigeon in 0..pigeons {
@@ -22,7 +22,7 @@ pub fn pigeons(alloc: Global, pigeons: u64, holes: u64) -> Result<Formula, Alloc
 
 /// Says that a pigeon is in a hole.
 ///
-/// The one error is want of memory.
+/// The only error is out of memory.
 fn house(alloc: Global, formula: &mut Formula, holes: u64, pigeon: u64) -> Result<(), AllocError> {
     let mut clause = Vec::new(alloc);
     for hole in 0..holes {
@@ -33,7 +33,7 @@ fn house(alloc: Global, formula: &mut Formula, holes: u64, pigeon: u64) -> Resul
 
 /// Says that no two pigeons are in a hole.
 ///
-/// The one error is want of memory.
+/// The only error is out of memory.
 fn part(formula: &mut Formula, pigeons: u64, holes: u64, hole: u64) -> Result<(), AllocError> {
     for second in 0..pigeons {
         for first in 0..second {
@@ -58,9 +58,9 @@ fn is_in(holes: u64, pigeon: u64, hole: u64) -> Lit {
     )
 }
 
-/// So many random clauses of three literals, of different variables each.
+/// Random clauses of three literals, of different variables each.
 ///
-/// The one error is want of memory.
+/// The only error is out of memory.
 pub fn random(
     alloc: Global,
     variables: u64,
@@ -97,7 +97,7 @@ fn three_below(source: &mut Source, limit: u64) -> [u64; 3] {
     [low.min(last), low.max(last.min(high)), high.max(last)]
 }
 
-/// The number at a place among those without one of them.
+/// The number at an index among all but one of them.
 fn past(place: u64, left_out: u64) -> u64 {
     if place >= left_out {
         place.saturating_add(1)

@@ -6,7 +6,7 @@ use ba_choices::Choice;
 use ba_steps::RunJudge;
 use std::alloc::AllocError;
 
-/// A judge to whom no run is good.
+/// A judge for whom no run is good.
 #[derive(Clone, Copy, Drop)]
 pub struct NoRuns;
 

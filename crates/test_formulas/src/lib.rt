@@ -1,4 +1,4 @@
-//! Formulas for tests and benchmarks, and tests of what the solver's calls assume.
+//! Formulas for tests and benchmarks, and tests of the conditions of the solver's calls.
 #![tactic(auto)]
 
 mod clauses;

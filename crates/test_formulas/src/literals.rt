@@ -9,14 +9,14 @@ pub fn literal(variable: u64, negated: bool) -> Lit {
     if negated { lit.negated() } else { lit }
 }
 
-/// The literal of a number: the variable of its size, negated where it is below 0.
+/// The literal of a number: the variable of its size, negated if it is below 0.
 pub fn lit(code: i64) -> Lit {
     literal(code.unsigned_abs(), code < 0)
 }
 
 /// The literals of numbers.
 ///
-/// The one error is want of memory.
+/// The only error is out of memory.
 pub fn lits(alloc: Global, codes: &[i64]) -> Result<Vec<Lit>, AllocError> {
     let mut list = Vec::new(alloc);
     for code in codes {

@@ -5,9 +5,10 @@ use ba_bytes::decimal::decimal;
 use ba_choices::{Choice, Values};
 use std::alloc::Global;
 
-/// The choices that words spell as a report does: `k` where a statement runs as written, or `t` and the values that it takes.
+/// The choices that words spell as in a report: `k` if a statement runs as written, or `t` and the values
+/// that it takes.
 ///
-/// `NoChoice` where a word is none of these.
+/// `NoChoice` if a word is none of these.
 pub fn choices_of(alloc: Global, words: &str) -> Result<Vec<Choice>, Fault> {
     let mut choices = Vec::new(alloc);
     for word in words.split(' ') {

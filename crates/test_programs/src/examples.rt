@@ -4,7 +4,8 @@ use crate::Relaxed;
 use ba_numbers::ids::{CallId, StmtId};
 use ba_tree::run::{Outcome, Step};
 
-/// A program, an input, the bounds on turns and on frames, what may be relaxed, choices, and the outcome of the run.
+/// A program, an input, the bounds on iterations and on frames, what may be relaxed, choices, and the outcome
+/// of the run.
 pub type Example = (
     &'static str,
     &'static str,
@@ -15,10 +16,13 @@ pub type Example = (
     Outcome,
 );
 
+/// Nothing may be relaxed.
 const NONE: Relaxed = Relaxed::Statements(&[]);
 
+/// The run meets every assertion.
 const DONE: Outcome = Outcome::Done;
 
+/// The choices are wrong.
 const WRONG: Outcome = Outcome::WrongChoices;
 
 /// An array, `if` and `else`, an assert, an element returned.
@@ -164,7 +168,7 @@ int main(void) {
 }
 ";
 
-/// As many turns as the input says.
+/// As many iterations as the input says.
 pub const TURNS: &str = "int main(int n) {
     int i;
     for (i = 0; i < n; i++) { }
@@ -204,7 +208,7 @@ pub const VALUES: &str = "int main(int a) {
 }
 ";
 
-/// A local of a loop's body, which is 0 again in each turn.
+/// A local of a loop's body, which is 0 again in each iteration.
 pub const AGAIN: &str = "int main(void) {
     int i, s;
     for (i = 0; i < 2; i++) {
@@ -260,7 +264,7 @@ int main(void) {
 }
 ";
 
-/// A `switch` whose statements behind one label fall through to those behind the next.
+/// A `switch` whose statements after one label fall through to those after the next.
 pub const FALLS: &str = "int main(int a) {
     int r;
     switch (a) {
@@ -277,7 +281,8 @@ pub const FALLS: &str = "int main(int a) {
 }
 ";
 
-/// Several labels at one statement, a `default` in the middle, a negative label of an unsigned `switch`, a `return` in one.
+/// Several labels at one statement, a `default` in the middle, a negative label of an unsigned `switch`, a
+/// `return` in one.
 pub const PATHS: &str = "int path(unsigned u) {
     int r;
     r = 0;
@@ -303,7 +308,8 @@ int main(unsigned u, int expected) {
 }
 ";
 
-/// A `switch` in another one, in each kind of loop, with `continue`, with a call, of a `char`, and without a label.
+/// A `switch` in another one, in each kind of loop, with `continue`, with a call, of a `char`, and without a
+/// label.
 pub const NESTED: &str = "int half(int n) {
     return n / 2;
 }

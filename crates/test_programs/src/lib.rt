@@ -11,7 +11,7 @@ pub use program::program_of;
 pub use relaxed::Relaxed;
 use std::alloc::{AllocError, AllocFailed};
 
-/// Why a text of a test could not be read: it spells no program, a word is no choice, or want of memory.
+/// Why a text of a test could not be read: it spells no program, a word is no choice, or out of memory.
 #[derive(Clone, Copy, Debug, PartialEq, Eq)]
 pub enum Fault {
     NoProgram,

@@ -9,7 +9,7 @@ use std::alloc::Global;
 
 /// The program that a C text spells.
 ///
-/// `NoProgram` where it spells none, or has more than 65,536 bytes.
+/// `NoProgram` if it spells none, or has more than 65,536 bytes.
 pub fn program_of(alloc: Global, text: &str) -> Result<Program, Fault> {
     if text.len() > MAX_TEXT {
         return Err(Fault::NoProgram);

@@ -5,7 +5,8 @@ use ba_numbers::ids::StmtId;
 use ba_tree::run::{Allowed, Place, Step};
 use std::alloc::{AllocError, Global};
 
-/// What a run may relax: the statements of these numbers, or one place, by the calls and turns around it and its statement's number.
+/// What a run may relax: the statements of these numbers, or one place, by the calls and iterations around it
+/// and its statement's number.
 #[derive(Clone, Copy, Debug)]
 pub enum Relaxed {
     Statements(&'static [u32]),
@@ -22,6 +23,7 @@ impl Relaxed {
     }
 }
 
+/// The statements of these numbers.
 fn statements(alloc: Global, numbers: &[u32]) -> Result<Items<StmtId>, AllocError> {
     let mut statements = Items::new(alloc);
     for number in numbers {
@@ -30,6 +32,7 @@ fn statements(alloc: Global, numbers: &[u32]) -> Result<Items<StmtId>, AllocErro
     Ok(statements)
 }
 
+/// The one place of this path and statement.
 fn place(alloc: Global, path: &[Step], number: u32) -> Result<Items<Place>, AllocError> {
     let mut places = Items::new(alloc);
     places.push(Place {

@@ -9,7 +9,7 @@ use ba_world::{HostWorld, RuntimeFiles};
 use std::io;
 use std::rt::Files;
 
-/// Calls the program by words, over files of the current folder, and tells its status where that is not 0.
+/// Calls the program by words, over files of the current folder, and tells its status if that is not 0.
 pub fn call<R: AllocGlobal + Files + Print>(rt: &R, words: &[&str]) -> Result<()> {
     let mut world = HostWorld::new(RuntimeFiles(rt), io::writer(rt));
     let rules = Rules::new(luby, steady, keep);

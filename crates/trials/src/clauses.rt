@@ -19,7 +19,7 @@ impl fmt::Display for Signed {
     }
 }
 
-/// Writes the literals of a clause and the 0 behind them, up to the end of the line.
+/// Writes the literals of a clause and the 0 after them, up to the end of the line.
 pub fn write_clause<W: Write>(writer: &mut W, lits: &[Lit]) -> io::Result<()> {
     for lit in lits {
         let signed = Signed(*lit);

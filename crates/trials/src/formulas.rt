@@ -15,7 +15,7 @@ use std::time::{Clock, Instant};
 use steps::{print_steps, tell_time};
 use wcnf::print_encoded;
 
-/// How many frames may be active at a time where the words don't say it.
+/// How many frames may be active at a time if the words don't say it.
 const DEPTH: &str = "16";
 
 /// Prints the formula that words ask for.
@@ -50,7 +50,8 @@ fn number_to(most: u32, word: &str) -> Result<u32> {
     Ok(number)
 }
 
-/// Prints the formula of a program on an input, whose files have these names, behind the sizes of what it is made from.
+/// Prints the formula of a program on an input, whose files have these names, after the sizes of what it is
+/// made from.
 fn print_formula<R: AllocGlobal + Clock + Eprint + Files + Print>(
     rt: &R,
     program: &str,

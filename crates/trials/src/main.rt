@@ -1,15 +1,16 @@
 //! Trials of the program and of its parts.
 //!
-//! `trials SCRIPT ..` makes the trials of scripts, which are files. A line of a script is a trial, whose words stand between
-//! single blanks; blank lines and those that begin with `#` are none. Each trial tells its line, and then what it comes to:
+//! A scripted test driver: `trials SCRIPT ..` makes the trials of scripts, which are files. A line of a
+//! script is a trial, with single blanks between its words. Blank lines and lines that begin with `#` are
+//! skipped. Each trial prints its line, and then its result:
 //!
-//! - `bugassist WORDS ..`: the program called by these words, over the files of the current folder, with its status where that
-//!   is not 0;
-//! - `formula PROGRAM INPUT BOUND [DEPTH]`: the formula of a C program on an input, where each statement weighs 1, as weighted
-//!   CNF in the format of the MaxSAT evaluations since 2022, with the sizes of what it was made from as comments, and on
-//!   standard error how long each step took;
-//! - `search FILE`: the search over a formula in the DIMACS format, with each learnt clause put through a checker: the answer,
-//!   the conflicts and the literals that propagation assigned.
+//! - `bugassist WORDS ..`: the program called by these words, over the files of the current folder, with its
+//!   status if that is not 0;
+//! - `formula PROGRAM INPUT BOUND [DEPTH]`: the formula of a C program on an input, where each statement
+//!   weighs 1. It is weighted CNF in the format of the MaxSAT evaluations since 2022. Comments have the sizes
+//!   of what it was made from; standard error has the time of each step.
+//! - `search FILE`: the search over a formula in the DIMACS format, with each learnt clause put to a checker.
+//!   It prints the answer, the conflicts and the literals that propagation assigned.
 #![tactic(auto)]
 
 mod calls;
@@ -41,7 +42,7 @@ fn is_trial(line: &str) -> bool {
     !line.trim().is_empty() && !line.starts_with('#')
 }
 
-/// Makes the trials of a script, and tells each behind its line.
+/// Makes the trials of a script, and tells each after its line.
 fn make_trials<R: AllocGlobal + Clock + Eprint + Files + Print>(rt: &R, name: &str) -> Result<()> {
     let script = fs::read_to_string(rt, name)?;
     for line in script.lines() {
@@ -61,6 +62,7 @@ fn run<R: AllocGlobal + Clock + Env + Eprint + Files + Print>(rt: &R) -> Result<
     Ok(())
 }
 
+/// Makes the trials of the scripts that the words name.
 fn main(rt: HostRuntime) -> Result<()> {
     run(&rt)
 }

@@ -2,7 +2,7 @@ use Rattle.std.proofs.Common.{◌≡◌, ◌<◌, ◌==◌, length, sym, ap, ◌
 use Rattle.ba_nodes.proofs.Truths.{Grows-more, Extends-through}
 use Rattle.ba_words.specs.Words.{low_number, number_of}
 use Rattle.ba_words.proofs.Places.{are_bits-extends, low_number-extends, number_of-extends}
-use Rattle.ba_cells.specs.Cells.{cell_at, place_read}
+use Rattle.ba_cells.specs.Cells.{cell_at, index_read}
 use Rattle.ba_cells.proofs.Places.{read-one, read-more, read_in_range, grid-extends, row_at, column_at}
 use Rattle.ba_cells.proofs.read_cell.Goals as goal
 
@@ -70,7 +70,7 @@ loop-place-preserved c =
           ∙ (λ i. if c.in_ok-here.ensures.value.holds free i then cell i else before i)
           ∙ ap (λ k. if k == c.loop-place.place
           then number_of free c.args.nodes.now (cell_at c.args.cells.now c.loop-place.place)
-          else number_of free c.args.nodes.now (cell_at c.args.cells.now (place_read c.loop-place.place n)))
+          else number_of free c.args.nodes.now (cell_at c.args.cells.now (index_read c.loop-place.place n)))
           index
           ∙ read-more (λ k. number_of free c.args.nodes.now (cell_at c.args.cells.now k)) c.loop-place.place n
           (omega arith);
@@ -88,4 +88,4 @@ returns-clause-value c = read_in_range c.args.nodes.now c.loop-place.nodes c.arg
     let all : c.loop-place.place ≡ _ = omega arith in
     c.loop-place.invariant.holds free
     ∙ ap (λ n. number_of free c.args.nodes.now (cell_at c.args.cells.now
-    (place_read n (low_number free c.args.nodes.now c.args.index.now 8)))) all)
+    (index_read n (low_number free c.args.nodes.now c.args.index.now 8)))) all)

@@ -3,7 +3,7 @@
 use crate::tree::expressions::{Conditional, NextExpression, TypeName};
 use ba_tokens::token::Token;
 
-/// The length of an array behind its name: `[ ]`, with an expression or without.
+/// The length of an array after its name: `[ ]`, with an expression or without.
 pub struct ArrayLength {
     /// `[`
     pub open: Token,
@@ -46,7 +46,7 @@ impl Drop for Braced {
     }
 }
 
-/// `=` and what a variable begins with (C90 6.5.7): an expression, or values in braces.
+/// `=` and the initial value of a variable (C90 6.5.7): an expression, or values in braces.
 pub enum Initialiser {
     /// `=` and an expression.
     Expression { assign: Token, value: Conditional },
@@ -190,8 +190,8 @@ impl Drop for Enumerators {
     }
 }
 
-/// What a declaration of a file or of a block begins with (C90 6.5): the words that name a type; or the words up
-/// to `enum` and its tag, the constants in braces, and the words behind them.
+/// The words at the front of a declaration of a file or a block (C90 6.5). They name a type. An enumerated
+/// type has a tag, constants in braces, or both, with words before and after them.
 pub struct Specifiers {
     pub words: Vec<Token>,
     pub enumerators: Option<Enumerators>,

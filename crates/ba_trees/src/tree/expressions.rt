@@ -16,7 +16,7 @@ impl Drop for TypeName {
 /// A conditional expression (C90 6.3.15), the widest expression of the profile.
 #[cycle(expression)]
 pub struct Conditional {
-    /// What stands before the `?`, or the whole.
+    /// What precedes the `?`, or the whole.
     pub test: Operand,
     pub branches: Option<Branches>,
 }
@@ -54,8 +54,8 @@ impl Drop for Branches {
     }
 }
 
-/// A unary expression and the chains of binary operators that follow it, those that bind tighter first (C90 6.3.5 to
-/// 6.3.14): each chain takes all that stands before it as its leftmost operand.
+/// A unary expression and the chains of binary operators that follow it, the tightest first (C90 6.3.5 to
+/// 6.3.14). Each chain takes all that is before it as its leftmost operand.
 #[cycle(expression)]
 pub struct Operand {
     pub first: Unary,
@@ -72,8 +72,9 @@ impl Drop for Operand {
     }
 }
 
-/// What follows the leftmost operand in a chain of binary operators of one level: an operator, its right operand, and the
-/// rest of the chain. So `a - b - c` is `a` and then the chain `- b` with `- c` as its rest; it leans left.
+/// What follows the leftmost operand in a chain of binary operators of one level: an operator, its right
+/// operand, and the rest of the chain. So `a - b - c` is `a` and the chain `- b` with the rest `- c`. It
+/// groups from the left.
 #[cycle(expression)]
 pub struct Chain {
     /// The level of the operators, from 1 for `*` to 10 for `||`.
@@ -110,7 +111,7 @@ pub enum Unary {
         close: Token,
         operand: Box<Unary>,
     },
-    /// A primary expression, or one with `[ ]` or `( )` behind it.
+    /// A primary expression, or one with `[ ]` or `( )` after it.
     Primary(Primary),
 }
 

@@ -1,4 +1,4 @@
-//! The trees of statements and of what stands at the level of the file (C90 6.6, 6.7).
+//! The trees of statements and of what is at the level of the file (C90 6.6, 6.7).
 
 ghost use Rattle.std.specs.Prelude.{IsTrue, map};
 ghost use Rattle.ba_trees.specs.ExternalMarks.{external_marks};
@@ -41,7 +41,7 @@ impl Drop for Index {
     }
 }
 
-/// An assignment, a step or a call, as it stands in a statement or in the head of a `for`.
+/// An assignment, a step or a call, as in a statement or in the head of a `for`.
 pub enum Simple {
     /// `=` or a compound assignment (C90 6.3.16).
     Assign {
@@ -49,7 +49,7 @@ pub enum Simple {
         operator: Token,
         value: Conditional,
     },
-    /// `++` or `--` behind (C90 6.3.2.4).
+    /// `++` or `--` after (C90 6.3.2.4).
     Step {
         target: Target,
         operator: Token,
@@ -59,7 +59,7 @@ pub enum Simple {
         operator: Token,
         target: Target,
     },
-    /// A call as a statement of its own (C90 6.3.2.2).
+    /// A call as a statement (C90 6.3.2.2).
     Call {
         name: Token,
         open: Token,
@@ -170,7 +170,7 @@ impl Drop for Label {
     }
 }
 
-/// What a `for` begins with (C90 6.6.5.3).
+/// The first part of the head of a `for` (C90 6.6.5.3).
 pub enum ForFirst {
     /// A declaration of variables of the loop, which the profile has beyond C90.
     Declaration {
@@ -204,7 +204,7 @@ pub struct ForHead {
     /// The controlling expression, if there is one.
     pub test: Option<Conditional>,
     pub second_semicolon: Token,
-    /// What is done after each turn.
+    /// The step, which is executed after each iteration.
     pub step: Option<Simples>,
 }
 
@@ -260,7 +260,7 @@ impl Drop for Block {
     }
 }
 
-/// What stands in a block: the profile lets declarations stand among the statements (C90 6.6.2 has them first).
+/// An item of a block. The profile allows declarations among the statements (C90 6.6.2 has them first).
 #[cycle(statement)]
 pub enum BlockItem {
     Declaration(Declaration),
@@ -311,7 +311,7 @@ pub enum StatementForm {
         holds: Controlled,
         fails: Option<Else>,
     },
-    /// C90 6.6.4.2. The profile lets labels stand directly in the braces alone.
+    /// C90 6.6.4.2. The profile allows labels only directly in the braces.
     Switch {
         keyword: Token,
         condition: Condition,
@@ -422,8 +422,8 @@ impl Drop for StatementForm {
     }
 }
 
-/// The substatement or loop body that another statement controls (C90 6.6.4, 6.6.5): one more construct is around its
-/// tokens.
+/// The substatement or loop body that another statement controls (C90 6.6.4, 6.6.5). It counts as one more
+/// construct around its tokens.
 #[cycle(statement)]
 pub struct Controlled {
     pub statement: Box<Statement>,
@@ -521,7 +521,7 @@ impl Drop for Group {
     }
 }
 
-/// What stands at the level of the file: variables or a function (C90 6.7).
+/// What is at the level of the file: variables or a function (C90 6.7).
 pub struct External {
     pub specifiers: Specifiers,
     pub form: ExternalForm,
@@ -536,9 +536,9 @@ impl Drop for External {
     }
 }
 
-/// The forms of what stands at the level of the file.
+/// The forms of what is at the level of the file.
 pub enum ExternalForm {
-    /// Variables of the file (C90 6.7.2), or none behind the constants of an enumerated type.
+    /// Variables of the file (C90 6.7.2), or none after the constants of an enumerated type.
     Variables {
         declarators: Option<Declarators>,
         semicolon: Token,
@@ -588,7 +588,7 @@ impl Drop for FunctionEnd {
     }
 }
 
-/// The tree of a file, a translation unit (C90 6.7). No token in it has more than a hundred constructs around it.
+/// The tree of a file, a translation unit (C90 6.7). No token in it has more than 100 constructs around it.
 pub struct RawProgram {
     pub externals: Vec<External>,
     pub ghost accepted: { IsTrue (has_accepted_levels

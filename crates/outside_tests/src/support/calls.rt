@@ -46,8 +46,8 @@ pub fn world_of(
     MemoryWorld::new(alloc, files, fails, piece).expect(rt, "memory")
 }
 
-/// A world that gives pieces of 16 bytes and counts its calls. It holds the array example, with weights and with these bytes
-/// as its certificate.
+/// A world that gives pieces of 16 bytes and counts its calls. It holds the array example, with weights and
+/// with these bytes as its certificate.
 pub fn counted_world(
     rt: &impl Abort,
     alloc: Global,

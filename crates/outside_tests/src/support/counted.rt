@@ -8,14 +8,14 @@ use ba_lits::{Formula, Lit};
 use ba_steps::{CertStep, SinkError, StepSink};
 use ba_world::{World, WorldError};
 
-/// What is printed where a call fails that reads; nothing for one that writes or prints.
+/// What is printed if a call fails that reads; nothing for one that writes or prints.
 pub type Refusal = Option<&'static str>;
 
 /// A world that notes the calls of the world inside. It tells what that one tells.
 #[derive(Drop)]
 pub struct Counted<W> {
     pub inside: W,
-    /// What is printed where the call of this number fails, and no later one.
+    /// What is printed if the call of this number fails, and no later one.
     pub calls: Vec<Refusal>,
     reading: Refusal,
 }
@@ -31,7 +31,7 @@ impl<W: World> Counted<W> {
     }
 }
 
-/// What is printed where the file of this name can't be read.
+/// What is printed if the file of this name can't be read.
 fn refusal_of(name: &str) -> Refusal {
     match name {
         "p.c" => Some("refused: program cannot be read\n"),

@@ -3,7 +3,7 @@
 use ba_world::{World, WorldError};
 use std::alloc::Global;
 
-/// The name of a file, how it begins, and what stands behind that again and again. A file ends where nothing does.
+/// The name of a file, how it begins, and what follows that again and again. A file ends where nothing does.
 pub type EndlessFile = (&'static str, &'static str, &'static str);
 
 /// A world of such files, which gives a byte at a time and tells none. A file of another name is empty.
@@ -38,7 +38,7 @@ impl Endless {
     }
 }
 
-/// How the file of this name begins, and what stands behind that again and again.
+/// How the file of this name begins, and what follows that again and again.
 fn file_of(files: &'static [EndlessFile], name: &str) -> (&'static [u8], &'static [u8]) {
     for (own, front, again) in files {
         if *own == name {

@@ -21,7 +21,7 @@ use test_programs::program_of;
 /// How many statements are relaxable: those with the numbers from 1 on.
 const STATEMENTS: u32 = 4;
 
-/// What a certificate is judged on.
+/// What a certificate is checked on.
 #[derive(Drop)]
 pub struct Problem {
     pub program: Program,
@@ -115,7 +115,7 @@ fn assert_selectors(rt: &impl Abort, alloc: Global, problem: &Problem)
     assert!(rt; are_selectors(problem.encoded.formula().variables(), softs.as_slice()));
 }
 
-/// What a text says, whole or, where a size is given, in pieces of this size.
+/// What a text says, whole or, if a size is given, in pieces of this size.
 pub fn judge(
     rt: &impl Abort,
     alloc: Global,

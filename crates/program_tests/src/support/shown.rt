@@ -6,7 +6,7 @@ use std::alloc::{AllocError, Global};
 use std::panic::Expect;
 use std::process::Abort;
 
-/// A call by its number, or a loop's statement and the number of its turn.
+/// A call by its number, or a loop's statement and the number of its iteration.
 fn show_step(out: &mut String, step: &Step) -> Result<(), AllocError> {
     match step {
         Step::Call(call) => write!(out, " c{}", call.0),
@@ -14,7 +14,8 @@ fn show_step(out: &mut String, step: &Step) -> Result<(), AllocError> {
     }
 }
 
-/// A place: its statement, and the calls and turns around it, as `5(3.1 c2)` for statement 5 in turn 1 of loop 3 and call 2.
+/// A place: its statement, and the calls and iterations around it, as `5(3.1 c2)` for statement 5 in
+/// iteration 1 of loop 3 and call 2.
 fn show_place(out: &mut String, place: &Place) -> Result<(), AllocError> {
     write!(out, "{}(", place.stmt.0)?;
     for step in place.path.as_slice() {
@@ -23,12 +24,12 @@ fn show_place(out: &mut String, place: &Place) -> Result<(), AllocError> {
     out.push_str(" ) ")
 }
 
-/// Puts a word and a number behind the text.
+/// Puts a word and a number after the text.
 fn show_number(out: &mut String, word: &str, number: u32) -> Result<(), AllocError> {
     write!(out, "{word} {number} ")
 }
 
-/// Puts the node behind the text: places with what Keep does there, blocks, branches, and ends.
+/// Puts the node after the text: places with what Keep does there, blocks, branches, and ends.
 #[cycle(nodes)]
 fn show(out: &mut String, node: &Node) -> Result<(), AllocError> {
     match node {
@@ -52,7 +53,7 @@ fn show(out: &mut String, node: &Node) -> Result<(), AllocError> {
     }
 }
 
-/// Puts nodes behind the text.
+/// Puts nodes after the text.
 #[cycle(nodes)]
 fn show_row(out: &mut String, nodes: &[Node]) -> Result<(), AllocError> {
     for node in nodes {
@@ -61,7 +62,7 @@ fn show_row(out: &mut String, nodes: &[Node]) -> Result<(), AllocError> {
     Ok(())
 }
 
-/// Puts nodes in braces behind the text.
+/// Puts nodes in braces after the text.
 #[cycle(nodes)]
 fn show_braced(out: &mut String, nodes: &[Node]) -> Result<(), AllocError> {
     out.push_str("{ ")?;

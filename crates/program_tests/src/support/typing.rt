@@ -9,24 +9,24 @@ use std::alloc::Global;
 use std::panic::Expect;
 use std::process::Abort;
 
-/// The number of a fault and its place, or `fits` where there is none.
+/// The number of a fault and its place, or `fits` if there is none.
 fn fault(rt: &impl Abort, alloc: Global, error: Option<TypeError>) -> String {
     match error {
         None => String::from_str(alloc, "fits").expect(rt, "memory"),
-        Some(TypeError::UnknownName(at)) => at_place(rt, alloc, 1, at),
-        Some(TypeError::Twice(at)) => at_place(rt, alloc, 2, at),
-        Some(TypeError::WrongKind(at)) => at_place(rt, alloc, 3, at),
-        Some(TypeError::WrongCount(at)) => at_place(rt, alloc, 4, at),
+        Some(TypeError::UnknownName(at)) => at_position(rt, alloc, 1, at),
+        Some(TypeError::Twice(at)) => at_position(rt, alloc, 2, at),
+        Some(TypeError::WrongKind(at)) => at_position(rt, alloc, 3, at),
+        Some(TypeError::WrongCount(at)) => at_position(rt, alloc, 4, at),
         Some(TypeError::NoMain) => String::from_str(alloc, "5").expect(rt, "memory"),
-        Some(TypeError::BadLength(at)) => at_place(rt, alloc, 6, at),
-        Some(TypeError::BreakOutside(at)) => at_place(rt, alloc, 7, at),
-        Some(TypeError::CallInIndex(at)) => at_place(rt, alloc, 8, at),
-        Some(TypeError::Limit(at)) => at_place(rt, alloc, 9, at),
+        Some(TypeError::BadLength(at)) => at_position(rt, alloc, 6, at),
+        Some(TypeError::BreakOutside(at)) => at_position(rt, alloc, 7, at),
+        Some(TypeError::CallInIndex(at)) => at_position(rt, alloc, 8, at),
+        Some(TypeError::Limit(at)) => at_position(rt, alloc, 9, at),
         Some(TypeError::Memory) => panic!(rt; "memory"),
     }
 }
 
-fn at_place(rt: &impl Abort, alloc: Global, number: u32, at: At) -> String {
+fn at_position(rt: &impl Abort, alloc: Global, number: u32, at: At) -> String {
     format!(in alloc; "{number} at {}:{}", at.line, at.column).expect(rt, "memory")
 }
 

@@ -12,7 +12,8 @@ use ba_encode::Encoded;
 use ba_lits::{Formula, Lit};
 use test_formulas::are_selectors;
 
-/// Whether a search for all least sets may begin, for a formula without executions whose groups have these soft literals.
+/// Whether a search for all least sets may begin, for a formula without executions whose groups have these
+/// soft literals.
 #[tactic(auto, using(crate::proofs::SomeLaws::readable_as, crate::proofs::SomeLaws::start_as))]
 pub fn may_begin(encoded: &Encoded, softs: &[(Lit, u32)]) -> bool
     requires softs { softs.now ≡ softs_of encoded.now.groups }

@@ -38,7 +38,7 @@ pub fn row<const N: usize>(rt: &impl Abort, alloc: Global, words: [WordOp; N]) -
     Vec::from_array(alloc, words).expect(rt, "memory")
 }
 
-/// Whether each entry fits behind those before it.
+/// Whether each entry fits after those before it.
 pub fn are_words(rt: &impl Abort, alloc: Global, words: &[WordOp]) -> bool
     ensures { result ≡ true → are_words words.now ≡ true }
 {
@@ -53,7 +53,7 @@ pub fn are_words(rt: &impl Abort, alloc: Global, words: &[WordOp]) -> bool
     true
 }
 
-/// Whether an entry fits behind others of these lengths.
+/// Whether an entry fits after others of these lengths.
 fn fits_behind(lengths: &[u32], op: &WordOp) -> bool
     ensures { result ≡ fits_behind lengths.now op.now }
 {

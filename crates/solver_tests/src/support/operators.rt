@@ -10,7 +10,7 @@ use std::alloc::Global;
 use std::panic::Expect;
 use std::process::Abort;
 
-/// An operator of two words, with whether they are signed where that tells.
+/// An operator of two words, with whether they are signed if that tells.
 #[derive(Clone, Copy)]
 pub enum Operator {
     Add,
@@ -28,7 +28,8 @@ pub enum Operator {
     DivAndRem(bool),
 }
 
-/// The word of an operator at two words: of a comparison 1 or 0, of a division with its remainder the remainder.
+/// The word of an operator at two words: of a comparison 1 or 0, of a division with its remainder the
+/// remainder.
 pub fn circuit(rt: &impl Abort, nodes: &mut Nodes, operator: Operator, a: &Word, b: &Word) -> Word
     requires first { AreBitsOf nodes.old a.now }
     requires second { AreBitsOf nodes.old b.now }
@@ -61,7 +62,7 @@ fn one_or_zero(bit: Bit) -> Word {
     word
 }
 
-/// The value at two constants, or nothing where it takes a gate.
+/// The value at two constants, or nothing if it takes a gate.
 pub fn at_constants(
     rt: &impl Abort,
     alloc: Global,
@@ -73,7 +74,7 @@ pub fn at_constants(
     folded(rt, &mut nodes, operator, a, b)
 }
 
-/// The value at two constants, or nothing where there are gates.
+/// The value at two constants, or nothing if there are gates.
 fn folded(rt: &impl Abort, nodes: &mut Nodes, operator: Operator, a: u32, b: u32) -> Option<u32> {
     let word = circuit(rt, nodes, operator, &word(a), &word(b));
     if nodes.count() == 0 {

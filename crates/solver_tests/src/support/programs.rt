@@ -9,7 +9,8 @@ use std::panic::Expect;
 use std::process::Abort;
 use test_programs::program_of;
 
-/// The formula of a program on an input and with weights, each as users write it. Each entry of a loop may have so many turns.
+/// The formula of a program on an input and with weights, each as users write it. Each entry of a loop may
+/// have so many turns.
 pub fn encoded_of(
     rt: &impl Abort,
     alloc: Global,

@@ -39,7 +39,7 @@ pub fn value_in(values: &[bool], bit: Bit) -> bool {
     values.get(bit.index as usize).copied().unwrap_or(false) != bit.negated
 }
 
-/// The values of the constant and of the nodes, where the first 32 nodes are free bits with the digits of `a`, and
+/// The values of the constant and of the nodes. The first 32 nodes are free bits with the digits of `a`, and
 /// the next 32 with those of `b`.
 pub fn values(rt: &impl Abort, alloc: Global, nodes: &Nodes, a: u32, b: u32) -> Vec<bool> {
     let mut values = vec![in alloc; false].expect(rt, "memory");
@@ -89,8 +89,8 @@ pub fn number(values: &[bool], word: &Word) -> u32 {
     number
 }
 
-/// The number of a word of circuits, where the first 32 nodes are free bits with the digits of `a`, and the next 32 with those of
-/// `b`.
+/// The number of a word of circuits. The first 32 nodes are free bits with the digits of `a`, and the next 32
+/// with those of `b`.
 pub fn number_at(
     rt: &impl Abort,
     alloc: Global,

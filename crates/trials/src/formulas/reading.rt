@@ -33,7 +33,7 @@ pub fn input_of(alloc: Global, program: &Program, text: &[u8]) -> Result<Input>
     Ok(read_input(alloc, program, text)?)
 }
 
-/// The weights of a program's statements where each is 1.
+/// The weights of a program's statements if each is 1.
 pub fn unit_weights(alloc: Global, program: &Program) -> Result<Weights>
     ensures { IfOk result (λ weights. AreWeightsOf program.now weights.of) }
 {

@@ -13,8 +13,8 @@ use ba_unroll::unroll;
 use std::io;
 use std::time::{Clock, Instant};
 
-/// Makes the list of words of a program on an input step by step, and prints the sizes of what it made: the nodes of the tree
-/// without calls and of the one without loops, and the words, the requirements and the places of their list.
+/// Makes the word list of a program on an input step by step, and prints its sizes. They are the nodes of the
+/// trees without calls and without loops, and the list's words, requirements and places.
 pub fn print_steps<R: AllocGlobal + Clock + Eprint + Print>(
     rt: &R,
     program: &Program,

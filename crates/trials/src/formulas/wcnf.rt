@@ -8,8 +8,8 @@ use ba_numbers::ids::At;
 use ba_tree::tree::Program;
 use std::io::{self, BufWriter, Write};
 
-/// Prints the formula of a program behind its sizes. A soft clause says that a statement runs as written, and the comment
-/// before it which one, and where it begins.
+/// Prints the formula of a program after its sizes. A soft clause says that a statement runs as written, and
+/// the comment before it which one, and where it begins.
 pub fn print_encoded<R: AllocGlobal + Print>(
     rt: &R,
     program: &Program,
@@ -38,7 +38,7 @@ fn write_soft<W: Write>(writer: &mut W, program: &Program, encoded: &Encoded) ->
     for group in 0..encoded.groups() {
         let number = encoded.number(group);
         let weight = encoded.weight(group);
-        let At { line, column } = place_of(program, number);
+        let At { line, column } = position_of(program, number);
         writeln!(writer, "c statement {number} at {line}:{column}")?;
         write!(writer, "{weight} ")?;
         write_clause(writer, &[encoded.selector(group)])?;
@@ -46,8 +46,8 @@ fn write_soft<W: Write>(writer: &mut W, program: &Program, encoded: &Encoded) ->
     Ok(())
 }
 
-/// Where the statement of a number begins; 0:0 where there is none.
-fn place_of(program: &Program, number: u32) -> At {
+/// Where the statement of a number begins; 0:0 if there is none.
+fn position_of(program: &Program, number: u32) -> At {
     let place = number.saturating_sub(1) as usize;
     match program.statements.as_slice().get(place) {
         Some(statement) => statement.at,

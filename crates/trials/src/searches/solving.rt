@@ -15,7 +15,7 @@ const CONFLICTS: u64 = 10_000_000;
 
 /// Solves a formula, with each learnt clause put through a checker, and tries the answer.
 ///
-/// The one error is want of memory.
+/// The only error is out of memory.
 pub fn solve(alloc: Global, formula: &Formula) -> Result<Report, SearchError> {
     let checker = Checker::new(alloc, formula, &[], CONFLICTS, 0)?;
     let mut checked = Checked::new(checker, NoRuns, NoSink);

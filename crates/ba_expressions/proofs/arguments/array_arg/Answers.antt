@@ -1,7 +1,7 @@
 use Rattle.std.proofs.Common.{◌++◌, sym, ◌∙◌, ap}
 use Rattle.ba_typing.specs.Expressions.{Typed, array_arg}
 use Rattle.ba_typing.specs.Faults.{fault}
-use Rattle.ba_expressions.specs.Judging.{after}
+use Rattle.ba_expressions.specs.Inferring.{after}
 use Rattle.ba_tree.specs.Trees.{value}
 use Rattle.ba_typing.specs.declared.fault.Cause.TheVariants.{WrongKind}
 use Rattle.ba_expressions.proofs.ArgumentSteps.{arg-Value, arg-Array}

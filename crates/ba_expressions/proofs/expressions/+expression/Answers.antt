@@ -8,7 +8,7 @@ use Rattle.ba_trees.specs.declared.tree.expressions.Expressions.{out-Expressions
 use Rattle.ba_trees.specs.declared.tree.expressions.Operand.{out-Operand}
 use Rattle.ba_typing.specs.Expressions.{Typed, Typing, after_chains, params_of_called, typed_arg, typed_args, typed_arguments, typed_binary, typed_call, typed_cast, typed_chain, typed_conditional, typed_element, typed_next, typed_operand, typed_primary, typed_unary, typed_unary_expression, whole_operand, with_more_faults}
 use Rattle.ba_typing.specs.Faults.{fault_if, array_name_faults, limit_faults, height_limit, tag_faults}
-use Rattle.ba_expressions.specs.Judging.{Gives, GivesArg, Stands, Judges, after, with_faults, faults_of_arg, faults_of_args, calls_of_args, AreArgs}
+use Rattle.ba_expressions.specs.Inferring.{Gives, GivesArg, Stands, Infers, after, with_faults, faults_of_arg, faults_of_args, calls_of_args, AreArgs}
 use Rattle.ba_typing.specs.Names.{binary_operator, meaning_of, name_of, punct_of, tag_of, unary_operator, words_of}
 use Rattle.ba_typing.specs.declared.fault.Cause.TheVariants.{WrongKind}
 use Rattle.ba_typing.specs.declared.meanings.Signature.{Signature}
@@ -93,8 +93,8 @@ chain-returns-in-None t c base s stands =
     (typed_operand (out-Chain
     c.args.c.now).operand) scope) base c.args.tally.now
     c.operand.new.tally s c.args.left c.in_ok-right.right c.in_ok-left.left stands c.in_ok-right.ensures
-    (subst (λ op. (s u : Typed) → Judges c.args.left s → Judges c.in_ok-right.right u
-    → Judges c.in_ok-left.left (typed_binary op s u)) which c.in_ok-left.ensures))
+    (subst (λ op. (s u : Typed) → Infers c.args.left s → Infers c.in_ok-right.right u
+    → Infers c.in_ok-left.left (typed_binary op s u)) which c.in_ok-left.ensures))
 
 pub chain-returns-in-Some : goal.chain-returns-in-Some
 chain-returns-in-Some t c base s stands =
@@ -112,8 +112,8 @@ chain-returns-in-Some t c base s stands =
     (typed_operand (out-Chain
     c.args.c.now).operand) scope) base c.args.tally.now
     c.operand.new.tally s c.args.left c.in_ok-right.right c.in_ok-left.left stands c.in_ok-right.ensures
-    (subst (λ op. (s u : Typed) → Judges c.args.left s → Judges c.in_ok-right.right u
-    → Judges c.in_ok-left.left (typed_binary op s u)) which c.in_ok-left.ensures))))
+    (subst (λ op. (s u : Typed) → Infers c.args.left s → Infers c.in_ok-right.right u
+    → Infers c.in_ok-left.left (typed_binary op s u)) which c.in_ok-left.ensures))))
 
 -- UNARY AND PRIMARY EXPRESSIONS
 

@@ -2,7 +2,7 @@
 use Rattle.std.proofs.Common.{◌≡◌, List, option_map, map, drop}
 use Rattle.std.specs.Borrow.{Bor}
 use Rattle.ba_typing.specs.Expressions.{Typed, TypedArg, after_chains, params_of_called, typed_args, typed_arguments, typed_chain, typed_next, typed_operand, whole_operand}
-use Rattle.ba_expressions.specs.Judging.{Stands}
+use Rattle.ba_expressions.specs.Inferring.{Stands}
 use Rattle.ba_typing.specs.declared.meanings.Signature.{Signature}
 use Rattle.ba_expressions.proofs.ArgumentSteps.{Looked}
 use Rattle.ba_expressions.proofs.expressions.+expression.Given as goal

@@ -132,7 +132,7 @@ guard_node-returns-in_ok-take_values-in-Pick t c = on_ok_weaker c.join.result (�
     (λ f r cs. sym (trace-Pick r d.arrays n (traced_of f b cs) place take c.in-Pick.keep c.in-Pick.is)))
     c.join.ensures
 
--- where the run never comes, and where a condition is a constant
+-- if the run never comes, and if a condition is a constant
 
 pub guard_node-returns-then-is_zero : goal.guard_node-returns-then-is_zero
 guard_node-returns-then-is_zero t c = λ vars infos fits fit.

@@ -26,7 +26,7 @@ added_more before now after kinds i kind at here item added adds =
     (sym (ap (tokens_at at) more ∙ map-append token (take i kinds) (get_or kinds i kind ∷ [])))
     )
 
--- a token too many in this row, or want of memory
+-- a token too many in this row, or out of memory
 refused : (before now : List Token) (kinds : List TokenKind) (i : ℕ) (at : At) (e : LexError) →
     i < length kinds → now ≡ before ++ tokens_at at (take i kinds) →
     (e ≡ Memory) ⊎ ((e ≡ TooMany at) × (length now ≡ MAX_TOKENS)) →

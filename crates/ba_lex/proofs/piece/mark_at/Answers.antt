@@ -20,7 +20,7 @@ at_line [] is = absurd (cc)
 at_line (b ∷ bs) is =
     subst (λ b. line_comment_at (b ∷ bs) ≡ mark_at 47 (b ∷ bs)) (sym (eqb-true b 47 is)) refl
 
--- where no test is met
+-- if no test is met
 by_tests : (quote double comment line : Bool) (a b c d e : Form × ℕ) → quote ≡ false → double ≡ false →
     comment ≡ false → line ≡ false →
     e ≡ (if quote then a else (if double then b else (if comment then c else (if line then d else e))))

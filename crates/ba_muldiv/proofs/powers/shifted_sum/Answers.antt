@@ -15,7 +15,7 @@ use Rattle.ba_muldiv.proofs.powers.shifted_sum.Goals as goal
 
 pub add_with_carry-requires-clause-words : goal.add_with_carry-requires-clause-words
 add_with_carry-requires-clause-words c = record {
-  first = c.upper_places.ensures.bits c.args.nodes.now c.requires.first;
+  first = c.upper_bits.ensures.bits c.args.nodes.now c.requires.first;
   second = are_bits-replicate c.args.nodes.now 32 c.constant-zero.result
       (c.constant-zero.ensures.value c.args.nodes.now).is_bit;
 }
@@ -42,7 +42,7 @@ returns c = makes_word (search rules)
           let top = truth free middle (bit_at sums (31 - by)) in
           let zeros = number-zeros free old 32 c.constant-zero.result ((c.constant-zero.ensures.value
           old).holds free) in
-          let upper = c.upper_places.ensures.number old free in
+          let upper = c.upper_bits.ensures.number old free in
           let sign = c.add_with_carry.ensures.grows.extends.keeps free (bit_at c.args.a.now 31)
           (c.requires.first 31) ∙ sign_value free old c.args.a.now true c.told-a in
           let sign_is = c.in_ok-sign.ensures.makes.value.holds free ∙ ap (λ t. t && top) sign in

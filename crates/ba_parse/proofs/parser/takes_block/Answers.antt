@@ -1,4 +1,4 @@
--- All have names, or `void` stands alone.
+-- All have names, or `void` is alone.
 
 use Rattle.std.proofs.Common.{◌≡◌, true, false, not, ◌||◌, sym, ◌∙◌, ap}
 use Rattle.ba_parse.specs.Grammar.{has_unnamed, is_void}

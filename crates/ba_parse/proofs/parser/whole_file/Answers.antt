@@ -42,7 +42,7 @@ returns-in-Err-Syntax c =
     rw c.in-Err-Syntax.field-0-is at both in
     let read : externals_from c.args.tokens.now ≡ syntax c.rest-in-Err-Syntax.result.now =
     ap externals_from (sym c.new-reader.ensures) ∙ told ∙ ap syntax (sym c.rest-in-Err-Syntax.ensures) in
-    inr (ap (λ k. Err (error.Syntax k)) c.place_of.ensures
+    inr (ap (λ k. Err (error.Syntax k)) c.token_number.ensures
     ∙ ap (λ a. outcome_of c.args.tokens.now (around file a)) (sym read))
 
 pub returns-in-Err-TooDeep : goal.returns-in-Err-TooDeep
@@ -54,5 +54,5 @@ returns-in-Err-TooDeep c =
     let read : externals_from c.args.tokens.now ≡ too_deep c.rest-in-Err-TooDeep.result.now =
     ap externals_from (sym c.new-reader.ensures) ∙ told
     ∙ ap too_deep (sym c.rest-in-Err-TooDeep.ensures) in
-    inr (ap (λ k. Err (error.TooDeep k)) c.place_of-in-Err-TooDeep.ensures
+    inr (ap (λ k. Err (error.TooDeep k)) c.token_number-in-Err-TooDeep.ensures
     ∙ ap (λ a. outcome_of c.args.tokens.now (around file a)) (sym read))

@@ -3,7 +3,7 @@ use Rattle.std.specs.List.{suffix_len}
 use Rattle.ba_bytes.specs.Classes.{is_blank}
 use Rattle.ba_report.proofs.lines.trimmed_end.Given as goal
 
--- what stands from the end so far on is blank
+-- what is from the end so far on is blank
 abbrev pub invariant-loop-end : goal.invariant-loop-end
 invariant-loop-end l = record {
   within : l.end ≤ length l.line;

@@ -7,10 +7,10 @@ use Rattle.ba_statements.proofs.AssignmentSteps.{assigns-is}
 use Rattle.ba_statements.proofs.assignments.put_assignment.Goals as goal
 
 pub returns : goal.returns
-returns c = on_ok_weaker c.put.result (λ pushed s e is judges.
+returns c = on_ok_weaker c.put.result (λ pushed s e is infers.
     assigns-is c.args.at s e c.args.whole c.args.work.now c.number.new.self c.add_limit.new.self
     c.kind_of_target-kind.result c.in_ok-stmt.stmt (tree_of_stmt c.assigned_stmt.result)
-    (map tree_of_stmt c.args.stmts.now.items) _ judges c.add_limit.ensures c.in_ok-stmt.ensures
+    (map tree_of_stmt c.args.stmts.now.items) _ infers c.add_limit.ensures c.in_ok-stmt.ensures
     (c.kind_of_target-kind.ensures s is)
     (c.assigned_stmt.ensures s e is
-    (c.in_ok-value.ensures e judges ∙ ap (λ (t : CType). tree_as t e) is.t)) pushed) c.put.ensures
+    (c.in_ok-value.ensures e infers ∙ ap (λ (t : CType). tree_as t e) is.t)) pushed) c.put.ensures

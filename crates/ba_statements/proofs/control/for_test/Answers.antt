@@ -3,7 +3,7 @@ use Rattle.std.specs.Prelude.{IfOk}
 use Rattle.ba_trees.specs.declared.tree.expressions.Conditional.{Conditional}
 use Rattle.ba_statements.specs.Adding.{GivesTest}
 use Rattle.ba_typing.specs.Statements.{for_test_or}
-use Rattle.ba_expressions.proofs.Judgements.{if-ok}
+use Rattle.ba_expressions.proofs.Inferences.{if-ok}
 use Rattle.ba_statements.proofs.control.for_test.Goals as goal
 
 pub returns-in-None : goal.returns-in-None

@@ -1,9 +1,9 @@
 use Rattle.std.proofs.Common.{sym, ℕ, Bool, Option, map, ◌∙◌, ap, subst}
 use Rattle.std.specs.Option.{is_some}
-use Rattle.ba_statements.specs.Adding.{AddsLength, at_place, state}
+use Rattle.ba_statements.specs.Adding.{AddsLength, state_with, state}
 use Rattle.ba_typing.specs.Declarations.{count_of_values, typed_array_length}
 use Rattle.ba_typing.specs.Faults.{fault_if, void_faults}
-use Rattle.ba_expressions.specs.Judging.{with_faults}
+use Rattle.ba_expressions.specs.Inferring.{with_faults}
 use Rattle.ba_tree.specs.Trees.{tree_of_stmt}
 use Rattle.ba_typing.specs.declared.fault.Cause.TheVariants.{WrongKind}
 use Rattle.ba_statements.proofs.Adding.{faults-part}
@@ -28,7 +28,7 @@ returns c =
     (state scope c.add_length.new.work c.args.stmts.now)
     (state c.add_variable.new.scope c.add_variable.new.work c.args.stmts.now)
     (state c.add_variable.new.scope c.add_variable.new.work c.add_declare.new.stmts)
-    s4 (at_place c.add_variable.new.scope (record c.add_optional_initialiser.new.work {
+    s4 (state_with c.add_variable.new.scope (record c.add_optional_initialiser.new.work {
       tally =
           c.add_if.new.self;
     }) s4.stmts)

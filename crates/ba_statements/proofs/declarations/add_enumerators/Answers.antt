@@ -1,6 +1,6 @@
 use Rattle.std.proofs.Common.{ℤ, None, Some, List, SFits, w64, to_z, to_z-of_z, rules, ◌+◌, map, drop, ◌∙◌, ap}
 use Rattle.ba_trees.specs.declared.tree.declarations.NextEnumerator.{NextEnumerator}
-use Rattle.ba_statements.specs.Adding.{at_place, behind_part}
+use Rattle.ba_statements.specs.Adding.{state_with, behind_part}
 use Rattle.ba_typing.specs.Declarations.{add_enumerator_list, enumerators_in}
 use Rattle.ba_statements.proofs.Enumerating.{all-listed, first-listed, next-listed}
 use Rattle.ba_statements.proofs.declarations.add_enumerators.Goals as goal
@@ -15,9 +15,9 @@ loop-next-init c stmts =
     let fits : SFits w64 z = search rules in
     let others = λ (xs : List NextEnumerator). map (λ (n : NextEnumerator). n.enumerator) xs in
     ap (λ (z : ℤ). behind_part (add_enumerator_list functions (Some z) (others c.deref-next-items.result.now))
-    (at_place k u stmts)) (to_z-of_z fits)
+    (state_with k u stmts)) (to_z-of_z fits)
     ∙ ap (λ (xs : List NextEnumerator). behind_part (add_enumerator_list functions (Some z) (others xs))
-    (at_place k u stmts)) c.deref-next-items.ensures.value
+    (state_with k u stmts)) c.deref-next-items.ensures.value
     ∙ first-listed functions None c.args.scope.now k c.args.work.now u z stmts list.first
     (others list.rest.items)
     c.in_ok-last.ensures
@@ -36,11 +36,12 @@ loop-next-preserved c stmts =
     let fits : SFits w64 z = search rules in
     let xs = c.deref-next-items.result.now in
     ap (λ (z : ℤ). behind_part (add_enumerator_list functions (Some z)
-    (map (λ (n : NextEnumerator). n.enumerator) (drop (c.loop-next.next-index + 1) xs))) (at_place k u stmts))
+    (map (λ (n : NextEnumerator). n.enumerator) (drop (c.loop-next.next-index + 1) xs))) (state_with k u
+    stmts))
     (to_z-of_z fits)
     ∙ next-listed functions (Some last) scope k w u z stmts xs c.loop-next.next-index x
     (behind_part (add_enumerator_list functions None (enumerators_in list))
-    (at_place c.args.scope.now c.args.work.now stmts)) c.loop-next-test.true c.next-item.is
+    (state_with c.args.scope.now c.args.work.now stmts)) c.loop-next-test.true c.next-item.is
     c.in_ok-last-2.ensures (c.loop-next.invariant stmts)
 
 pub returns : goal.returns
@@ -48,6 +49,6 @@ returns c stmts =
     let functions = c.args.functions.now in
     all-listed functions (Some (to_z w64 c.loop-next.last-bits)) c.deref-next-items.result.now
     c.loop-next.next-index
-    (at_place c.loop-next.scope c.loop-next.work stmts)
+    (state_with c.loop-next.scope c.loop-next.work stmts)
     (behind_part (add_enumerator_list functions None (enumerators_in c.args.list.now))
-    (at_place c.args.scope.now c.args.work.now stmts)) c.loop-next-test.false (c.loop-next.invariant stmts)
+    (state_with c.args.scope.now c.args.work.now stmts)) c.loop-next-test.false (c.loop-next.invariant stmts)

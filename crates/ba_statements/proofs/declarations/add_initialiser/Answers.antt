@@ -2,7 +2,7 @@ use Rattle.std.proofs.Common.{◌==◌, Bool, cond, not, map, ◌∙◌, ap}
 use Rattle.std.proofs.lemmas.Result.{on_ok_weaker}
 use Rattle.ba_typing.specs.Declarations.{exceeds, has_braces, written_count, typed_each, values_of, init_tree}
 use Rattle.ba_typing.specs.Faults.{fault_if}
-use Rattle.ba_expressions.specs.Judging.{with_faults}
+use Rattle.ba_expressions.specs.Inferring.{with_faults}
 use Rattle.ba_tree.specs.Trees.{tree_of_stmt}
 use Rattle.ba_typing.specs.declared.fault.Cause.TheVariants.{WrongCount, WrongKind}
 use Rattle.ba_statements.proofs.Declaring.{initialiser-is, kept-all, some-length-some}

@@ -3,7 +3,7 @@ use Rattle.std.specs.Prelude.{option_map}
 use Rattle.std.proofs.Common.{refl}
 use Rattle.std.proofs.lemmas.Result.{on_ok_weaker}
 use Rattle.ba_tokens.specs.declared.token.Token.{Token}
-use Rattle.ba_statements.specs.Adding.{at_place}
+use Rattle.ba_statements.specs.Adding.{state_with}
 use Rattle.ba_statements.proofs.Enumerating.{with-list, without-list}
 use Rattle.ba_statements.proofs.declarations.add_specifiers.Goals as goal
 
@@ -20,6 +20,6 @@ returns-in_ok-add_tag-in-Some c =
     with-list c.args.functions.now c.args.specifiers.now
     (option_map (λ (t : Bor Token). t.now) c.tag_of_declaration-tag.result) c.args.scope.now w stmts
     c.tag_of_declaration-tag.ensures c.in-Some.enumerators
-    (at_place c.add_tag.new.scope (record w { tally = c.add_tag.new.tally }) stmts)
-    (at_place c.add_enumerators.new.scope c.add_enumerators.new.work stmts) c.in-Some.is
+    (state_with c.add_tag.new.scope (record w { tally = c.add_tag.new.tally }) stmts)
+    (state_with c.add_enumerators.new.scope c.add_enumerators.new.work stmts) c.in-Some.is
     (c.in_ok-add_tag-in-Some.ensures w stmts refl) (added stmts)) c.add_enumerators.ensures

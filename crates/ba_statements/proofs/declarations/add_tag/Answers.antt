@@ -3,10 +3,10 @@ use Rattle.std.specs.Borrow.{Bor}
 use Rattle.std.specs.Prelude.{option_map}
 use Rattle.std.proofs.lemmas.Result.{on_ok_weaker}
 use Rattle.ba_tokens.specs.declared.token.Token.{Token}
-use Rattle.ba_statements.specs.Adding.{at_place, behind_part}
+use Rattle.ba_statements.specs.Adding.{state_with, behind_part}
 use Rattle.ba_typing.specs.Declarations.{add_tag}
 use Rattle.ba_typing.specs.Faults.{fault_if}
-use Rattle.ba_expressions.specs.Judging.{with_faults}
+use Rattle.ba_expressions.specs.Inferring.{with_faults}
 use Rattle.ba_typing.specs.Names.{is_declared_here, knowing}
 use Rattle.ba_typing.specs.declared.fault.Cause.TheVariants.{Twice}
 use Rattle.ba_typing.specs.declared.meanings.Space.TheVariants as space
@@ -16,8 +16,8 @@ use Rattle.ba_statements.proofs.declarations.add_tag.Goals as goal
 
 pub returns-in_default : goal.returns-in_default
 returns-in_default c work stmts same =
-    let s = at_place c.args.scope.now work stmts in
-    ap (λ t. at_place c.args.scope.now (record work { tally = t }) stmts) (sym same) ∙ behind-nothing s
+    let s = state_with c.args.scope.now work stmts in
+    ap (λ t. state_with c.args.scope.now (record work { tally = t }) stmts) (sym same) ∙ behind-nothing s
     ∙ ap (λ (o : Option (Bor Token)). behind_part (add_tag (option_map (λ (t : Bor Token). t.now) o)) s)
     (sym c.in_default.is)
 
@@ -34,4 +34,4 @@ returns c =
     (knows ∙ ap (λ (n : ℕ). knowing (tag_entry c.name_of-name.result n ∷ []) scope) c.depth-depth.ensures
     ∙ ap (λ (name : List ℕ). knowing (tag_entry name scope.depth ∷ []) scope) c.name_of-name.ensures)
     ∙ ap (λ (o : Option (Bor Token)). behind_part (add_tag (option_map (λ (t : Bor Token). t.now) o))
-    (at_place scope work stmts)) (sym c.in-Some.is)) c.declare.ensures.ok
+    (state_with scope work stmts)) (sym c.in-Some.is)) c.declare.ensures.ok

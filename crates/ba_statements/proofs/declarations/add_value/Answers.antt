@@ -1,7 +1,7 @@
 use Rattle.std.proofs.Common.{◌==◌, Bool, ◌∙◌, ap}
 use Rattle.ba_typing.specs.Expressions.{typed_conditional}
 use Rattle.ba_typing.specs.Faults.{fault_if}
-use Rattle.ba_expressions.specs.Judging.{with_faults}
+use Rattle.ba_expressions.specs.Inferring.{with_faults}
 use Rattle.ba_typing.specs.declared.fault.Cause.TheVariants.{WrongKind}
 use Rattle.ba_statements.proofs.Declaring.{value-is}
 use Rattle.ba_statements.proofs.declarations.add_value.Goals as goal

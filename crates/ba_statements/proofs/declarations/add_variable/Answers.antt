@@ -1,7 +1,7 @@
 use Rattle.std.proofs.Common.{ℕ, Bool, [], ◌∷◌, ◌∙◌, ap}
 use Rattle.std.proofs.lemmas.Result.{on_ok_weaker}
 use Rattle.ba_typing.specs.Faults.{fault_if}
-use Rattle.ba_expressions.specs.Judging.{with_faults}
+use Rattle.ba_expressions.specs.Inferring.{with_faults}
 use Rattle.ba_typing.specs.Names.{knowing}
 use Rattle.ba_typing.specs.declared.fault.Cause.TheVariants.{Twice}
 use Rattle.ba_expressions.specs.declared.tally.Tally.{Tally}

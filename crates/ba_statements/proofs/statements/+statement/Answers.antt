@@ -5,7 +5,7 @@ use Rattle.ba_trees.specs.declared.tree.statements.BlockItem.{BlockItem}
 use Rattle.ba_trees.specs.declared.tree.statements.BlockItem as item
 use Rattle.ba_trees.specs.declared.tree.statements.Group.{Group, out-Group}
 use Rattle.ba_trees.specs.declared.tree.statements.Statement.{Statement}
-use Rattle.ba_statements.specs.Adding.{GivesTest, at_place, before_of, behind_part, state}
+use Rattle.ba_statements.specs.Adding.{GivesTest, state_with, before_of, behind_part, state}
 use Rattle.ba_statements.specs.Controlling.{GivesBody, GivesGuarded}
 use Rattle.ba_statements.specs.Labelling.{behind_group, behind_groups, switch_state}
 use Rattle.ba_typing.specs.Declarations.{Part, add_declaration, in_order}
@@ -193,8 +193,8 @@ add_block-returns-clause-adds t c =
     let body = map tree_of_stmt c.add_items.new.stmts.items in
     let olds = map tree_of_stmt c.args.stmts.now.items in
     let news = map tree_of_stmt c.put.new.stmts.items in
-    let inside : at_place k u body ≡ behind_part (in_order parts) (at_place entered w []) =
-    begun (in_order parts) entered w c.new-body.result.items (at_place k u body) c.new-body.ensures.items
+    let inside : state_with k u body ≡ behind_part (in_order parts) (state_with entered w []) =
+    begun (in_order parts) entered w c.new-body.result.items (state_with k u body) c.new-body.ensures.items
     c.in_ok-add_items.ensures in
     on_ok_weaker c.put.result (λ pushed. at-scope scope c.back_to.new.self u news _
     (block-back parts scope entered k w u body c.in_ok-enter.ensures.ok inside c.mark-outside.result
@@ -210,8 +210,8 @@ add_block-returns-clause-scope t c =
     let k = c.add_items.new.scope in
     let u = c.add_items.new.work in
     let body = map tree_of_stmt c.add_items.new.stmts.items in
-    let inside : at_place k u body ≡ behind_part (in_order parts) (at_place entered w []) =
-    begun (in_order parts) entered w c.new-body.result.items (at_place k u body) c.new-body.ensures.items
+    let inside : state_with k u body ≡ behind_part (in_order parts) (state_with entered w []) =
+    begun (in_order parts) entered w c.new-body.result.items (state_with k u body) c.new-body.ensures.items
     c.in_ok-add_items.ensures in
     on_ok_weaker c.put.result (λ pushed. block-back parts c.args.scope.now entered k w u body
     c.in_ok-enter.ensures.ok inside c.mark-outside.result c.back_to.new.self c.mark-outside.ensures
@@ -226,7 +226,7 @@ add_controlled-returns-clause-gives t c =
     body-is part c.args.scope.now c.add_statement.new.scope c.args.work.now c.add_statement.new.work held
     c.first_stmt.result
     (begun part c.args.scope.now c.args.work.now c.new-held.result.items
-    (at_place c.add_statement.new.scope c.add_statement.new.work held) c.new-held.ensures.items
+    (state_with c.add_statement.new.scope c.add_statement.new.work held) c.new-held.ensures.items
     c.in_ok-add_statement.ensures.adds) c.first_stmt.ensures
 
 pub add_loop_body-returns-clause-gives : goal.add_loop_body-returns-clause-gives

@@ -2,7 +2,7 @@ use Rattle.std.proofs.Common.{not, [], ◌∷◌, ◌++◌, map, refl, ◌∙◌
 use Rattle.std.proofs.lemmas.Result.{on_ok_weaker}
 use Rattle.ba_typing.specs.Faults.{fault_if}
 use Rattle.ba_typing.specs.Statements.{add_continue}
-use Rattle.ba_expressions.specs.Judging.{with_faults}
+use Rattle.ba_expressions.specs.Inferring.{with_faults}
 use Rattle.ba_tree.specs.Trees.{tree_of_stmt}
 use Rattle.ba_tree.specs.Trees as tree
 use Rattle.ba_typing.specs.declared.fault.Cause.TheVariants.{BreakOutside}

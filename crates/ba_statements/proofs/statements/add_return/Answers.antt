@@ -6,7 +6,7 @@ use Rattle.ba_numbers.specs.declared.numbers.CType.{CType}
 use Rattle.ba_numbers.specs.declared.numbers.CType.TheVariants.{I32}
 use Rattle.ba_typing.specs.Expressions.{typed_conditional, tree_as}
 use Rattle.ba_typing.specs.Faults.{fault_if}
-use Rattle.ba_expressions.specs.Judging.{with_faults}
+use Rattle.ba_expressions.specs.Inferring.{with_faults}
 use Rattle.ba_tree.specs.Trees.{tree_of_stmt}
 use Rattle.ba_typing.specs.declared.fault.Cause.TheVariants.{WrongKind}
 use Rattle.ba_statements.proofs.KeptValues.{un-not}

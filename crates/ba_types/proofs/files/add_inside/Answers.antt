@@ -1,7 +1,7 @@
 use Rattle.std.proofs.Common.{◌≡◌, ◌-◌, ℕ, List, [], length, drop, map, refl, ◌∙◌, ap}
 use Rattle.ba_numbers.specs.declared.ids.VarId.{VarId}
 use Rattle.ba_tree.specs.declared.tree.Stmt.{Stmt}
-use Rattle.ba_statements.specs.Adding.{at_place, behind_part}
+use Rattle.ba_statements.specs.Adding.{state_with, behind_part}
 use Rattle.ba_typing.specs.Declarations.{in_order}
 use Rattle.ba_typing.specs.Files.{body_parts, params_of, vars_from, vars_of}
 use Rattle.ba_tree.specs.Trees.{tree_of_stmt}
@@ -26,7 +26,7 @@ returns c =
     })
     (c.in_ok-add_params.ensures [])
     (c.in_ok-add_body.ensures
-    ∙ ap (λ (ss : List Stmt). behind_part (in_order (body_parts e)) (at_place s1 w1 (map tree_of_stmt ss)))
+    ∙ ap (λ (ss : List Stmt). behind_part (in_order (body_parts e)) (state_with s1 w1 (map tree_of_stmt ss)))
     c.new-body.ensures.items)
     refl
     (c.in_ok-params.ensures ∙ ap (λ (n : ℕ). vars_of (drop n s1.known)) c.count-outside.ensures)

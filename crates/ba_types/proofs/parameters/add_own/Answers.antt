@@ -1,6 +1,6 @@
 use Rattle.std.proofs.Common.{List, ◌∙◌, ap}
 use Rattle.std.proofs.lemmas.Result.{on_ok_weaker}
-use Rattle.ba_statements.specs.Adding.{at_place, behind_part}
+use Rattle.ba_statements.specs.Adding.{state_with, behind_part}
 use Rattle.ba_typing.specs.Declarations.{add_variable}
 use Rattle.ba_typing.specs.Files.{param_length}
 use Rattle.ba_typing.specs.declared.meanings.Signature.{Signature}
@@ -21,5 +21,5 @@ returns c =
     (declares stmts
     ∙ ap (λ (ss : List Signature). behind_part (add_variable ss c.args.at c.name_of_param-name.result
     (record { t = c.unwrap_or.result; shape = c.param_shape.result }))
-    (at_place scope w1 stmts)) c.new-functions.ensures))
+    (state_with scope w1 stmts)) c.new-functions.ensures))
     c.add_variable.ensures

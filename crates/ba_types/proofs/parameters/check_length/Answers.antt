@@ -1,7 +1,7 @@
 use Rattle.std.proofs.Common.{Bool, ◌∙◌, ap}
 use Rattle.ba_typing.specs.Faults.{fault_if}
 use Rattle.ba_typing.specs.Files.{param_length}
-use Rattle.ba_expressions.specs.Judging.{with_faults}
+use Rattle.ba_expressions.specs.Inferring.{with_faults}
 use Rattle.ba_typing.specs.declared.fault.Cause.TheVariants.{BadLength}
 use Rattle.ba_types.proofs.ParameterSteps.{checked-is}
 use Rattle.ba_types.proofs.parameters.check_length.Goals as goal

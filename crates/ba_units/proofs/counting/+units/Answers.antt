@@ -312,7 +312,7 @@ left_after_stmts-left_after_stmt-rest-requires t c = let h : height c.stmt-item.
     (search rules) in
     search (rules, h)
 
--- a condition and a turn are counted once
+-- a condition and an iteration are counted once
 pub left_after_loop-returns : goal.left_after_loop-returns
 left_after_loop-returns t c = c.left_after_turns.ensures _ _ _
     (behind-two _ 1 _ c.args.left _ _ refl c.saturating_sub.ensures c.left_after_expr-condition.ensures)

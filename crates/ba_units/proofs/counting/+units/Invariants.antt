@@ -31,7 +31,7 @@ abbrev pub decreases-left_after_loop : goal.decreases-left_after_loop
 decreases-left_after_loop l = l.frames * tallest l.setting.now.program.now
     + (weight l.when.now + height l.body.now + heights l.step.now + 5)
 
--- ROWS: what is left behind the parts up to a place
+-- ROWS: what is left after the parts up to a place
 
 abbrev pub invariant-left_after_exprs-loop-expr : goal.invariant-left_after_exprs-loop-expr
 invariant-left_after_exprs-loop-expr l =

@@ -26,7 +26,7 @@ abbrev pub invariant-add_nodes-loop-node : goal.invariant-add_nodes-loop-node
 invariant-add_nodes-loop-node l = Adds (nodes_act l.bound l.turns (take l.node-index l.nodes))
     (all_inside (take l.node-index l.nodes)) l.fn.out.items l.out.items
 
--- the last turns, so many of them
+-- the last iterations, so many of them
 abbrev pub invariant-add_turns-loop-left : goal.invariant-add_turns-loop-left
 invariant-add_turns-loop-left l = Adds (turns_act l.bound l.turns l.parts l.left (l.bound - l.left + 1))
     (loop_inside l.parts) l.fn.out.items l.out.items

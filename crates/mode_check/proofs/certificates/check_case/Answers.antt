@@ -1,5 +1,5 @@
 use Rattle.std.proofs.Common.{inr, ◌∙◌, sym}
-use Rattle.mode_check.proofs.Concluding.{check_ends, faithful_case, judging_over, memory_ends, only_same, outlasts_same, refusal_ends, stops_at_once, stops_check}
+use Rattle.mode_check.proofs.Concluding.{check_ends, faithful_case, checking_over, memory_ends, only_same, outlasts_same, refusal_ends, stops_at_once, stops_check}
 use Rattle.mode_check.proofs.certificates.check_case.Goals as goal
 
 pub new-requires-clause-selectors : goal.new-requires-clause-selectors
@@ -69,5 +69,5 @@ returns-clause-ends g c = λ x is.
     (c.as_slice.ensures.value ∙ c.in_ok-softs.ensures) c.in_ok-encoded.ensures o after t u
     c.begin.ensures.logs_stay c.file_answer.ensures.stays c.begin.ensures.outlasts
     c.in_ok-file_answer.field-0 c.in_ok-begin.ensures.told
-    (c.in_ok-file_answer.ensures.answer (judging_over j x case encoded) (sym c.as_str.ensures)
+    (c.in_ok-file_answer.ensures.answer (checking_over j x case encoded) (sym c.as_str.ensures)
     c.in_ok-confirm.ensures.nothing_read (faithful_case j x case is encoded c.in_ok-encoded.ensures))

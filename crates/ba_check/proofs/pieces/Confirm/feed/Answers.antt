@@ -14,8 +14,8 @@ returns-clause-reads c = λ h p text has.
     let old = seen c.args.self.now in
     let piece = c.args.piece.now in
     let new = c.take-answer.new.self in
-    piece-read h p text piece old old.head old.good new.judged new.rest.items c.refusal_of-self.result has
+    piece-read h p text piece old old.head old.good new.checked new.rest.items c.refusal_of-self.result has
     c.in_default.is refl refl
-    (subst (λ answer. KeepsWith answer new.judged new.rest.items (after_lines old.head old.good old.course)
+    (subst (λ answer. KeepsWith answer new.checked new.rest.items (after_lines old.head old.good old.course)
     (old.rest ++ piece))
     c.refusal_of-self.ensures (c.take-answer.ensures (rest-read h p text old has c.in_default.is)))

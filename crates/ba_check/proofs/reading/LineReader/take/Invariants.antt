@@ -7,9 +7,9 @@ use Rattle.ba_check.proofs.reading.LineReader.take.Given as goal
 -- what is left of the piece, after what is kept, gives what the whole piece gives
 abbrev pub invariant-loop-end : goal.invariant-loop-end
 invariant-loop-end g l = HasNoFeed l.initial.self.rest.items
-    → IsUnderWay l.head (g.J.RunJudge.accepts l.judge) (course_kept l.initial.self.judged)
+    → IsUnderWay l.head (g.J.RunJudge.accepts l.judge) (course_kept l.initial.self.checked)
     l.initial.self.rest.items l.piece
-    (course_kept l.self.judged) l.self.rest.items l.left
+    (course_kept l.self.checked) l.self.rest.items l.left
 
 abbrev pub decreases-loop-end : goal.decreases-loop-end
 decreases-loop-end g l = length l.left

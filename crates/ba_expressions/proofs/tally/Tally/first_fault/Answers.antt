@@ -1,7 +1,7 @@
 use Rattle.std.proofs.Common.{◌≡◌, Option, None, Some, List, [], sym, ap}
 use Rattle.std.specs.Prelude.{MatchOption}
 use Rattle.ba_typing.specs.Faults.{IsFirst}
-use Rattle.ba_expressions.specs.Judging.{least_with}
+use Rattle.ba_expressions.specs.Inferring.{least_with}
 use Rattle.ba_typing.specs.declared.fault.Fault.{Fault}
 use Rattle.ba_expressions.specs.declared.tally.Tally.{Tally}
 use Rattle.ba_expressions.proofs.Least.{least-is, least-none}

@@ -3,7 +3,7 @@ use Rattle.std.proofs.lemmas.List.{get_or_default}
 use Rattle.std.proofs.lemmas.List.Elements.{All-from_get_or}
 use Rattle.std.specs.List.{All}
 use Rattle.ba_lits.specs.Literals.{Literal, negate, lit_at, no_literal, IsClause}
-use Rattle.ba_watch.specs.Trails.{place_of, decided}
+use Rattle.ba_watch.specs.Trails.{trail_index, decided}
 use Rattle.ba_watch.specs.Propagation.{lits_in}
 use Rattle.ba_learn.specs.Live.{Follows, IsNewTo}
 use Rattle.ba_learn.specs.Levels.{level_in, IsReached, IsBacked, IsShort}
@@ -137,9 +137,10 @@ backjump_level-back-requires-clause-assigned c =
     ∙ ap (λ (t : List Literal). lit_at t u) c.trail.ensures)) in
     let sorted = same_sorted s c.negated.result (negated_at s u) c.sort.new.self.kept c.close.new.self.kept
     c.in_ok-lits.lits.items lead (ap (λ (w : Work). w.kept) c.sort.ensures.rest) c.in_ok-lits.ensures in
-    subst (λ (ls : List Literal). All (λ (l : Literal). place_of s.trail l.variable < length s.trail) ls)
+    subst (λ (ls : List Literal). All (λ (l : Literal). trail_index s.trail l.variable < length s.trail) ls)
     (sym c.as_slice.ensures.value)
-    (All-from_get_or (λ (l : Literal). place_of s.trail l.variable < length s.trail) c.in_ok-lits.lits.items
+    (All-from_get_or (λ (l : Literal). trail_index s.trail l.variable < length s.trail)
+    c.in_ok-lits.lits.items
     no_literal (analysed_placed s c.keeps_facts.ensures c.close.new.self u c.args.conflict done start
     pending above seen c.requires.live c.requires.false_ c.in_ok-lits.lits.items
     c.sort.new.self.resolved sorted c.sort.ensures.sorted))

@@ -11,7 +11,7 @@ pub start-requires-clause-live : goal.start-requires-clause-live
 start-requires-clause-live c =
     let s = c.args.watch.now in
     let p_is = core_place s c.args.lit c.variable-variable.result c.unwrap-place.result
-    c.variable-variable.ensures.variable c.requires.false_ (sym c.place.ensures
+    c.variable-variable.ensures.variable c.requires.false_ (sym c.trail_index.ensures
     ∙ c.unwrap-place.ensures) in
     let r_is = core_reason s c.args.lit c.variable-variable.result c.unwrap-place.result
     c.unwrap-reason.result c.variable-variable.ensures.variable p_is (sym c.reason.ensures
@@ -23,7 +23,7 @@ pub start-requires-clause-may : goal.start-requires-clause-may
 start-requires-clause-may c =
     let s = c.args.watch.now in
     let p_is = core_place s c.args.lit c.variable-variable.result c.unwrap-place.result
-    c.variable-variable.ensures.variable c.requires.false_ (sym c.place.ensures
+    c.variable-variable.ensures.variable c.requires.false_ (sym c.trail_index.ensures
     ∙ c.unwrap-place.ensures) in
     let r_is = core_reason s c.args.lit c.variable-variable.result c.unwrap-place.result
     c.unwrap-reason.result c.variable-variable.ensures.variable p_is (sym c.reason.ensures
@@ -37,7 +37,7 @@ pub close-requires : goal.close-requires
 close-requires c =
     let s = c.args.watch.now in
     let p_is = core_place s c.args.lit c.variable-variable.result c.unwrap-place.result
-    c.variable-variable.ensures.variable c.requires.false_ (sym c.place.ensures
+    c.variable-variable.ensures.variable c.requires.false_ (sym c.trail_index.ensures
     ∙ c.unwrap-place.ensures) in
     let r_is = core_reason s c.args.lit c.variable-variable.result c.unwrap-place.result
     c.unwrap-reason.result c.variable-variable.ensures.variable p_is (sym c.reason.ensures
@@ -50,7 +50,7 @@ pub clause-requires : goal.clause-requires
 clause-requires c =
     let s = c.args.watch.now in
     let p_is = core_place s c.args.lit c.variable-variable.result c.unwrap-place.result
-    c.variable-variable.ensures.variable c.requires.false_ (sym c.place.ensures
+    c.variable-variable.ensures.variable c.requires.false_ (sym c.trail_index.ensures
     ∙ c.unwrap-place.ensures) in
     let r_is = core_reason s c.args.lit c.variable-variable.result c.unwrap-place.result
     c.unwrap-reason.result c.variable-variable.ensures.variable p_is (sym c.reason.ensures
@@ -67,7 +67,7 @@ pub hints-requires-clause-live : goal.hints-requires-clause-live
 hints-requires-clause-live c =
     let s = c.args.watch.now in
     let p_is = core_place s c.args.lit c.variable-variable.result c.unwrap-place.result
-    c.variable-variable.ensures.variable c.requires.false_ (sym c.place.ensures
+    c.variable-variable.ensures.variable c.requires.false_ (sym c.trail_index.ensures
     ∙ c.unwrap-place.ensures) in
     let r_is = core_reason s c.args.lit c.variable-variable.result c.unwrap-place.result
     c.unwrap-reason.result c.variable-variable.ensures.variable p_is (sym c.reason.ensures
@@ -79,7 +79,7 @@ pub hints-requires-clause-reasons : goal.hints-requires-clause-reasons
 hints-requires-clause-reasons c =
     let s = c.args.watch.now in
     let p_is = core_place s c.args.lit c.variable-variable.result c.unwrap-place.result
-    c.variable-variable.ensures.variable c.requires.false_ (sym c.place.ensures
+    c.variable-variable.ensures.variable c.requires.false_ (sym c.trail_index.ensures
     ∙ c.unwrap-place.ensures) in
     let r_is = core_reason s c.args.lit c.variable-variable.result c.unwrap-place.result
     c.unwrap-reason.result c.variable-variable.ensures.variable p_is (sym c.reason.ensures
@@ -95,7 +95,7 @@ pub returns-clause-clause : goal.returns-clause-clause
 returns-clause-clause c =
     let s = c.args.watch.now in
     let p_is = core_place s c.args.lit c.variable-variable.result c.unwrap-place.result
-    c.variable-variable.ensures.variable c.requires.false_ (sym c.place.ensures
+    c.variable-variable.ensures.variable c.requires.false_ (sym c.trail_index.ensures
     ∙ c.unwrap-place.ensures) in
     let r_is = core_reason s c.args.lit c.variable-variable.result c.unwrap-place.result
     c.unwrap-reason.result c.variable-variable.ensures.variable p_is (sym c.reason.ensures
@@ -119,7 +119,7 @@ pub returns-clause-follows : goal.returns-clause-follows
 returns-clause-follows c =
     let s = c.args.watch.now in
     let p_is = core_place s c.args.lit c.variable-variable.result c.unwrap-place.result
-    c.variable-variable.ensures.variable c.requires.false_ (sym c.place.ensures
+    c.variable-variable.ensures.variable c.requires.false_ (sym c.trail_index.ensures
     ∙ c.unwrap-place.ensures) in
     let r_is = core_reason s c.args.lit c.variable-variable.result c.unwrap-place.result
     c.unwrap-reason.result c.variable-variable.ensures.variable p_is (sym c.reason.ensures
@@ -145,7 +145,7 @@ pub returns-clause-core : goal.returns-clause-core
 returns-clause-core c =
     let s = c.args.watch.now in
     let p_is = core_place s c.args.lit c.variable-variable.result c.unwrap-place.result
-    c.variable-variable.ensures.variable c.requires.false_ (sym c.place.ensures
+    c.variable-variable.ensures.variable c.requires.false_ (sym c.trail_index.ensures
     ∙ c.unwrap-place.ensures) in
     let r_is = core_reason s c.args.lit c.variable-variable.result c.unwrap-place.result
     c.unwrap-reason.result c.variable-variable.ensures.variable p_is (sym c.reason.ensures

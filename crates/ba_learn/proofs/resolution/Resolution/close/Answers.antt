@@ -1,5 +1,5 @@
 use Rattle.std.proofs.Common.{◌≡◌, ◌++◌, ◌∷◌, [], subst, sym, ap, ◌∙◌}
-use Rattle.ba_learn.specs.Resolving.{Work, MayResolve, Meets, with_resolved, reason_of_place}
+use Rattle.ba_learn.specs.Resolving.{Work, MayResolve, Meets, with_resolved, reason_of_index}
 use Rattle.ba_learn.proofs.ResolveLaws.{Resolves-trans, popped_within, popped_reason, popped_may, popped_resolves, popped_keeps, popped_pending, popped_short, popped_less}
 use Rattle.ba_learn.proofs.resolution.Resolution.close.Goals as goal
 
@@ -35,9 +35,9 @@ loop-place-preserved c =
     let is : c.loop-place.self.waiting ≡ c.pop.new.self.items ++ c.in-Some.place ∷ [] =
     ap (λ (w : Work). w.waiting) (sym c.self.view_is) ∙ c.in-Some.ensures.items in
     let met : Meets s (with_resolved (record c.loop-place.self { waiting = c.pop.new.self.items })
-    c.in-Some.place) c.resolve.new.self (reason_of_place s c.in-Some.place) =
+    c.in-Some.place) c.resolve.new.self (reason_of_index s c.in-Some.place) =
     subst (λ (w : Work). Meets s (with_resolved w c.in-Some.place) c.resolve.new.self
-    (reason_of_place s c.in-Some.place)) (ap (λ (w : Work). record w { waiting = c.pop.new.self.items })
+    (reason_of_index s c.in-Some.place)) (ap (λ (w : Work). record w { waiting = c.pop.new.self.items })
     c.self.view_is) c.in_ok-resolve.ensures in
     record {
       resolves = Resolves-trans s c.args.self.now c.loop-place.self c.resolve.new.self
@@ -61,9 +61,9 @@ loop-place-smaller c =
     let is : c.loop-place.self.waiting ≡ c.pop.new.self.items ++ c.in-Some.place ∷ [] =
     ap (λ (w : Work). w.waiting) (sym c.self.view_is) ∙ c.in-Some.ensures.items in
     let met : Meets s (with_resolved (record c.loop-place.self { waiting = c.pop.new.self.items })
-    c.in-Some.place) c.resolve.new.self (reason_of_place s c.in-Some.place) =
+    c.in-Some.place) c.resolve.new.self (reason_of_index s c.in-Some.place) =
     subst (λ (w : Work). Meets s (with_resolved w c.in-Some.place) c.resolve.new.self
-    (reason_of_place s c.in-Some.place)) (ap (λ (w : Work). record w { waiting = c.pop.new.self.items })
+    (reason_of_index s c.in-Some.place)) (ap (λ (w : Work). record w { waiting = c.pop.new.self.items })
     c.self.view_is) c.in_ok-resolve.ensures in
     popped_less s c.loop-place.self c.pop.new.self.items c.in-Some.place is c.resolve.new.self met
     c.keeps_facts.ensures h.0 (c.loop-place.invariant.work h.0 h.1)

@@ -4,11 +4,11 @@ use Rattle.std.proofs.lemmas.List.Sorted.{IsPermutation-swap_remove}
 use Rattle.std.proofs.lemmas.Result.{on_ok_weaker}
 use Rattle.std.specs.List.{swap_remove}
 use Rattle.std.specs.List.Sorted.{IsPermutation}
-use Rattle.ba_learn.specs.Resolving.{Work, is_seen, AreAbsorbed, IsInert, IsRedundant, MayResolve, Meets, StandsBehind, with_resolved, reason_of_place}
+use Rattle.ba_learn.specs.Resolving.{Work, is_seen, AreAbsorbed, IsInert, IsRedundant, MayResolve, Meets, StandsBehind, with_resolved, reason_of_index}
 use Rattle.ba_learn.proofs.ResolveLaws.{inert_redundant, dropped_inert, kept_on_trail, dropped_within, dropped_may, dropped_resolves, dropped_keeps, dropped_pending, dropped_length}
 use Rattle.ba_learn.proofs.resolution.Resolution.minimise_at.Goals as goal
 
--- the work without the place that stands at an index of what is kept
+-- the work without the place that is at an index of what is kept
 abbrev without : Work → ℕ → ℕ → Work
 without w index place = record w { kept = swap_remove w.kept index place }
 
@@ -81,7 +81,7 @@ returns-clause-resolves c =
     let same : c.drop_kept.new.self ≡ without w c.args.index place =
     dropped w c.args.index place at c.drop_kept.ensures.drops in
     let met = subst (λ (v : Work). OnOk c.resolve.result (Meets s (with_resolved v place) c.resolve.new.self
-    (reason_of_place s place))) same c.resolve.ensures in
+    (reason_of_index s place))) same c.resolve.ensures in
     on_ok_weaker c.resolve.result (dropped_resolves s w rest place is some c.resolve.new.self) met
 
 pub returns-clause-work : goal.returns-clause-work
@@ -98,7 +98,7 @@ returns-clause-work c =
     let same : c.drop_kept.new.self ≡ without w c.args.index place =
     dropped w c.args.index place at c.drop_kept.ensures.drops in
     let met = subst (λ (v : Work). OnOk c.resolve.result (Meets s (with_resolved v place) c.resolve.new.self
-    (reason_of_place s place))) same c.resolve.ensures in
+    (reason_of_index s place))) same c.resolve.ensures in
     on_ok_weaker c.resolve.result (λ m. dropped_keeps s w rest place is some c.resolve.new.self m
     c.keeps_facts.ensures) met
 
@@ -116,7 +116,7 @@ returns-clause-pending c =
     let same : c.drop_kept.new.self ≡ without w c.args.index place =
     dropped w c.args.index place at c.drop_kept.ensures.drops in
     let met = subst (λ (v : Work). OnOk c.resolve.result (Meets s (with_resolved v place) c.resolve.new.self
-    (reason_of_place s place))) same c.resolve.ensures in
+    (reason_of_index s place))) same c.resolve.ensures in
     on_ok_weaker c.resolve.result (λ m. dropped_pending s w rest place is some c.resolve.new.self m
     c.keeps_facts.ensures c.requires.work.0 c.requires.work.1) met
 
@@ -134,7 +134,7 @@ returns-clause-kept c =
     let same : c.drop_kept.new.self ≡ without w c.args.index place =
     dropped w c.args.index place at c.drop_kept.ensures.drops in
     let met = subst (λ (v : Work). OnOk c.resolve.result (Meets s (with_resolved v place) c.resolve.new.self
-    (reason_of_place s place))) same c.resolve.ensures in
+    (reason_of_index s place))) same c.resolve.ensures in
     on_ok_weaker c.resolve.result (λ m. dropped_length s w rest place is some c.resolve.new.self m
     c.args.index c.requires.within) met
 
@@ -152,8 +152,8 @@ returns-clause-short c =
     let same : c.drop_kept.new.self ≡ without w c.args.index place =
     dropped w c.args.index place at c.drop_kept.ensures.drops in
     let met = subst (λ (v : Work). OnOk c.resolve.result (Meets s (with_resolved v place) c.resolve.new.self
-    (reason_of_place s place))) same c.resolve.ensures in
-    let settled : AreAbsorbed s (is_seen w) (reason_of_place s place) =
+    (reason_of_index s place))) same c.resolve.ensures in
+    let settled : AreAbsorbed s (is_seen w) (reason_of_index s place) =
     (c.is_redundant.ensures.0 c.if-not-is_redundant.false).1 in
     on_ok_weaker c.resolve.result
     (λ m shallow short.

@@ -9,8 +9,8 @@ returns-in_default-get c =
     let test = λ (e : Entry). e.depth == c.args.depth in
     let items = c.self.inside.stored.items in let es = c.args.self.now in
     let i = c.in-Some.number in
-    let so_far = c.loop-place.invariant in
-    let within = hides-within es c.args.within c.args.name.now test so_far.0 i c.loop-place.place c.in-Some.is
+    let so_far = c.loop-next.invariant in
+    let within = hides-within es c.args.within c.args.name.now test so_far.0 i c.loop-next.next c.in-Some.is
     so_far.1 in
     let long = as-long items c.self.inside.newest es c.self.invariant c.self.view_is in
     let past = subst (λ xs. length xs ≤ i) c.deref.ensures.value c.in_default-get.ensures.lookup.3 in
@@ -21,59 +21,59 @@ returns-then-stored-depth c =
     let test = λ (e : Entry). e.depth == c.args.depth in
     let items = c.self.inside.stored.items in let es = c.args.self.now in
     let i = c.in-Some.number in let t = c.in-Some-get.stored.now in
-    let so_far = c.loop-place.invariant in
+    let so_far = c.loop-next.invariant in
     let within = subst (λ xs. i < length xs) c.deref.ensures.value c.in-Some-get.ensures.lookup.3.0 in
     let is = subst (λ xs. t ≡ get_or xs i t) c.deref.ensures.value c.in-Some-get.ensures.lookup.1 in
     let passes : (t.entry.depth == c.args.depth) ≡ true = grind (arith, nat_tests, c.if-stored-depth.true) in
-    hides-found es c.args.within c.args.name.now test so_far.0 i c.loop-place.place c.in-Some.is so_far.1
+    hides-found es c.args.within c.args.name.now test so_far.0 i c.loop-next.next c.in-Some.is so_far.1
     t.entry
     (entry-at items c.self.inside.newest es c.self.invariant c.self.view_is i t within is) passes
 
-pub loop-place-smaller : goal.loop-place-smaller
-loop-place-smaller c =
+pub loop-next-smaller : goal.loop-next-smaller
+loop-next-smaller c =
     let test = λ (e : Entry). e.depth == c.args.depth in
     let items = c.self.inside.stored.items in let es = c.args.self.now in let newest = c.self.inside.newest in
     let i = c.in-Some.number in let t = c.in-Some-get.stored.now in
-    let so_far = c.loop-place.invariant in
+    let so_far = c.loop-next.invariant in
     let within = subst (λ xs. i < length xs) c.deref.ensures.value c.in-Some-get.ensures.lookup.3.0 in
     let is = subst (λ xs. t ≡ get_or xs i t) c.deref.ensures.value c.in-Some-get.ensures.lookup.1 in
     let fails : (t.entry.depth == c.args.depth) ≡ false = grind (arith, nat_tests, c.if-stored-depth.false) in
-    let next = hides-next es c.args.within c.args.name.now test so_far.0 i c.loop-place.place c.in-Some.is
+    let next = hides-next es c.args.within c.args.name.now test so_far.0 i c.loop-next.next c.in-Some.is
     so_far.1
     t.entry t.hidden
     (entry-at items newest es c.self.invariant c.self.view_is i t within is) fails
     (hidden-at items newest es c.self.invariant c.self.view_is i t within is) in
     let falls = hides-falls es c.args.within c.args.name.now test i t.hidden next in
-    let was : steps_left c.loop-place.place ≡ i + 1 = ap steps_left c.in-Some.is in
-    let smaller : steps_left t.hidden < steps_left c.loop-place.place = omega (arith, falls, was) in smaller
+    let was : steps_left c.loop-next.next ≡ i + 1 = ap steps_left c.in-Some.is in
+    let smaller : steps_left t.hidden < steps_left c.loop-next.next = omega (arith, falls, was) in smaller
 
-pub loop-place-preserved : goal.loop-place-preserved
-loop-place-preserved c =
+pub loop-next-preserved : goal.loop-next-preserved
+loop-next-preserved c =
     let test = λ (e : Entry). e.depth == c.args.depth in
     let items = c.self.inside.stored.items in let es = c.args.self.now in let newest = c.self.inside.newest in
     let i = c.in-Some.number in let t = c.in-Some-get.stored.now in
-    let so_far = c.loop-place.invariant in
+    let so_far = c.loop-next.invariant in
     let within = subst (λ xs. i < length xs) c.deref.ensures.value c.in-Some-get.ensures.lookup.3.0 in
     let is = subst (λ xs. t ≡ get_or xs i t) c.deref.ensures.value c.in-Some-get.ensures.lookup.1 in
     let fails : (t.entry.depth == c.args.depth) ≡ false = grind (arith, nat_tests, c.if-stored-depth.false)
     in (
       i,
-      hides-next es c.args.within c.args.name.now test so_far.0 i c.loop-place.place c.in-Some.is so_far.1
+      hides-next es c.args.within c.args.name.now test so_far.0 i c.loop-next.next c.in-Some.is so_far.1
           t.entry t.hidden
           (entry-at items newest es c.self.invariant c.self.view_is i t within is) fails
           (hidden-at items newest es c.self.invariant c.self.view_is i t within is),
     )
 
-pub loop-place-init : goal.loop-place-init
-loop-place-init c = (
+pub loop-next-init : goal.loop-next-init
+loop-next-init c = (
   _,
   hides-first c.self.inside.stored.items c.self.inside.newest c.args.self.now c.self.invariant c.self.view_is
-      c.args.within c.args.name.now (λ (e : Entry). e.depth == c.args.depth) c.get-place.result
-      c.get-place.ensures,
+      c.args.within c.args.name.now (λ (e : Entry). e.depth == c.args.depth) c.get-next.result
+      c.get-next.ensures,
 )
 
 pub returns : goal.returns
-returns c = let so_far = c.loop-place.invariant in
+returns c = let so_far = c.loop-next.invariant in
     hides-none c.args.self.now c.args.within c.args.name.now (λ (e : Entry). e.depth == c.args.depth) so_far.0
-    c.loop-place.place
+    c.loop-next.next
     c.in_default.is so_far.1

@@ -1,7 +1,7 @@
 use Rattle.std.proofs.Common.{◌≡◌, true, None, Some, cond, length, sym, ◌∙◌, ap, subst}
 use Rattle.std.specs.Prelude.{is_some}
 use Rattle.ba_typing.specs.Names.{space_of}
-use Rattle.ba_scopes.specs.Storage.{AreStored, HasNewest, entries_of, last_place, newest_in}
+use Rattle.ba_scopes.specs.Storage.{AreStored, HasNewest, entries_of, last_number, newest_in}
 use Rattle.ba_scopes.proofs.Storing.{named-self, newest-is, pop-stored}
 use Rattle.ba_scopes.proofs.scopes.Declared.pop.Goals as goal
 
@@ -13,10 +13,10 @@ invariant_of-self-in-Some-hidden c =
     let name = t.entry.name in let within = space_of t.entry.entity in
     let there : is_some (newest_in newest within name) ≡ true = ap is_some
     (newest-is items t newest next stored within name
-    ∙ ap (λ b. cond b (Some (length (entries_of items))) (last_place within name (entries_of items)))
+    ∙ ap (λ b. cond b (Some (length (entries_of items))) (last_number within name (entries_of items)))
     (named-self t.entry)) in
     let replaced = subst (λ s. is_some (newest_in newest s name) ≡ true
-    → HasNewest s name (Some c.in-Some-hidden.place) newest next) c.space.ensures c.replace.ensures in
+    → HasNewest s name (Some c.in-Some-hidden.number) newest next) c.space.ensures c.replace.ensures in
     pop-stored items t newest next stored
     (subst (λ h. HasNewest within name h newest next) (sym c.in-Some-hidden.is) (replaced there))
 

@@ -10,14 +10,14 @@ invariant_of-self-else-is_err c =
     c.set.new.self in
     let e = c.args.entry in
     let named = c.copy-name.ensures in let within = c.space-within.ensures in
-    let count : c.len-place.result ≡ length items = omega (arith, c.len-place.ensures) in
+    let count : c.len-number.result ≡ length items = omega (arith, c.len-number.ensures) in
     let set = when-ok c.set.result
-    (HasNewest c.space-within.result c.copy-name.result (Some c.len-place.result) newest next)
+    (HasNewest c.space-within.result c.copy-name.result (Some c.len-number.result) newest next)
     c.set.ensures.ok (sym c.is_err.ensures.value ∙ c.if-is_err.false) in
     subst (λ xs. AreStored xs next) (sym c.in_ok-push.ensures.items)
     (push-stored items (record { entry = e; hidden = c.get-hidden.result }) newest next c.self.invariant
     (c.get-hidden.ensures ∙ ap (λ s. newest_in newest s c.copy-name.result) within
     ∙ ap (newest_in newest (space_of e.entity)) named)
     (subst (λ n. HasNewest (space_of e.entity) e.name (Some n) newest next) count
-    (subst (λ n. HasNewest (space_of e.entity) n (Some c.len-place.result) newest next) named
-    (subst (λ s. HasNewest s c.copy-name.result (Some c.len-place.result) newest next) within set))))
+    (subst (λ n. HasNewest (space_of e.entity) n (Some c.len-number.result) newest next) named
+    (subst (λ s. HasNewest s c.copy-name.result (Some c.len-number.result) newest next) within set))))

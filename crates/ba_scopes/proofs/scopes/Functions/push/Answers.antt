@@ -11,10 +11,10 @@ invariant_of-self-2 c =
     let ds = c.self.inside.declarations.items in let s = c.args.signature in
     let names = c.self.inside.names in let defs = c.self.inside.definitions in
     let next = c.list-listed.new.names in let more = c.list-listed.new.definitions in
-    let number : c.len-place.result ≡ length ds = omega (arith, c.len-place.ensures) in
+    let number : c.len-number.result ≡ length ds = omega (arith, c.len-number.ensures) in
     let entered = when-ok c.list-listed.result ((ds : List Signature) (s : Signature)
     → s.name ≡ c.copy-name.result
-    → s.is_definition ≡ c.args.signature.is_definition → c.len-place.result ≡ length ds
+    → s.is_definition ≡ c.args.signature.is_definition → c.len-number.result ≡ length ds
     → AreListed ds names defs → AreListed (ds ++ s ∷ []) next more)
     c.list-listed.ensures.ok (sym c.is_err.ensures.value ∙ c.if-is_err.false) in
     subst (λ xs. AreCounted xs next more c.in_ok-count.count) (sym c.in_ok-push.ensures.items)

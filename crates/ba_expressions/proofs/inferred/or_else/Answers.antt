@@ -1,0 +1,24 @@
+use Rattle.std.proofs.Common.{[], ◌∷◌, refl, ◌∙◌, ap}
+use Rattle.ba_numbers.specs.declared.numbers.CType.TheVariants.{I32}
+use Rattle.ba_typing.specs.Expressions.{typed_binary, tree_as}
+use Rattle.ba_expressions.specs.Inferring.{Infers, typed_from}
+use Rattle.ba_tree.specs.Trees.{tree_of_expr}
+use Rattle.ba_tree.specs.Trees as tree
+use Rattle.ba_typing.specs.declared.names.Operator.TheVariants.{OrElse}
+use Rattle.ba_expressions.proofs.Inferences.{as-over, if-ok, inferred-two, or_else-is}
+use Rattle.ba_expressions.proofs.inferred.or_else.Goals as goal
+
+pub returns : goal.returns
+returns c = if-ok c.over.result _ _ (λ j over s u left right.
+    inferred-two (λ s u. Infers j (typed_binary OrElse s u)) c.args.a c.args.b s u left right (λ m n fs gs.
+    let s = typed_from c.args.a m fs in let u = typed_from c.args.b n gs in
+    let t = c.promoted-left_t.result in let r = c.promoted-right_t.result in
+    or_else-is j s u t r c.promoted-left_t.ensures c.promoted-right_t.ensures
+    (as-over j s.first (s ∷ u ∷ []) I32 I32 (tree_of_expr c.in_ok-expr.expr)
+    (tree.or_else (tree_as t s) (tree_as r u)) c.or_else-value.result _ refl
+    (c.in_ok-expr.ensures
+    ∙ ap (λ x. tree.or_else x (tree_of_expr c.in_ok-right.right)) (c.in_ok-left.ensures s refl)
+    ∙ ap (tree.or_else (tree_as t s)) (c.in_ok-right.ensures u refl))
+    c.or_else-value.ensures
+    (over (s ∷ u ∷ []) (c.behind-operands.ensures s (u ∷ []) refl (c.behind.ensures u [] refl
+    c.none.ensures)))))) c.over.ensures
