@@ -602,8 +602,15 @@ ranked 4 'refused: inputs, error 3, line 2' \
 ranked 4 'refused: inputs, error 4' 'in.txt: error 4: no line has an input; blank lines and comments are none'
 ranked 4 'refused: inputs, error 5, line 1' \
     'in.txt:1: error 5: this is one input too many; at most 64 lines have one\n1'
+repaired() { explained "$@" repair p.c w.txt in.txt --bound 3; }
+repaired 4 'refused: failing, error 1 at number 2' \
+    'w.txt:1:3: error 1: number 2: this is no number; a number is digits, with a hyphen before them where it is negative\n1 fixed\n  ^'
+repaired 4 'refused: passing, error 3, line 2' \
+    'in.txt:2: error 3: there are too few or too many numbers: main takes one for each parameter and one for each element of an array\n 2  x3 4'
+repaired 17 'fails: line 2' \
+    'in.txt:2: the program as written has to pass on this line: an assertion fails, it traps, or it goes beyond a bound; a higher --bound may help\n 2  x3 4'
 two_files 5 'refused: too large' \
-    'p.c: too large: it has more than 20,000 units, its size with calls and loops written out; a lower --bound helps, or a lower --depth in recursion'
+    'p.c: too large: it has more than 20,000 units, its size with calls and loops written out, with --all once for each input; a lower --bound helps, or a lower --depth in recursion'
 two_files 6 'beyond bound at 1:5' \
     'p.c:1:5: beyond bound: a loop goes past --bound or a call past --depth; raise --bound (turns, at most 128) or --depth (frames, at most 32)\nint main(int a) {\n    ^'
 explained 10 'refused: certificate, error 1 at line 2' \
@@ -634,8 +641,9 @@ words() {
     shift
     explained 2 'refused: words' "bugassist: $says\nbugassist: see bugassist --help" "$@"
 }
-words 'no word is given: the first word is a mode: localise, check, run, rank or sample'
-words "'repair': this is no mode: the first word is localise, check, run, rank or sample" repair p i
+words 'no word is given: the first word is a mode: localise, check, run, rank, repair or sample'
+words "'mend': this is no mode: the first word is localise, check, run, rank, repair or sample" mend p i
+words 'PASSING: this has to be given; the mode takes PROGRAM FAILING PASSING' repair p i --bound 3
 words '--weights: this is no option of the mode, whose options are --bound --depth' run p i --bound 3 --weights w
 words '-b: this is no option of the mode, whose options are --bound --depth' run p i -b 3
 words '--: this is no option of the mode, whose options are none' sample --
@@ -648,8 +656,9 @@ words '--restart Luby: the value is luby or steady' localise p i --bound 3 --res
 words '--bound: the option has to be given: the turns of each entry of a loop, 1 to 128' localise p.c in.txt
 words '--bound: an option stands at most once' run p i --bound 3 --bound=3
 words '--places: the option does not stand beside --cert: no certificate is written for places' localise p i --bound 3 --cert c --places
-words '--places=1: this is no option of the mode, whose options are --bound --depth --weights --conflicts --sets --cert --restart --runs --places' \
+words '--places=1: this is no option of the mode, whose options are --bound --depth --weights --conflicts --sets --cert --restart --runs --places --all' \
     localise p i --bound 3 --places=1
+words '--places: the option does not stand beside --all: an execution belongs to one input' localise p i --bound 3 --all --places
 words 'INPUT: this has to be given; the mode takes PROGRAM INPUT' run p --bound 3
 words 'c: this is one too many; the mode takes PROGRAM INPUT' run p i c --bound 3
 words "'': no word may be empty" run p '' --bound 3

@@ -12,16 +12,21 @@ set_usage() {
     case $1 in
         localise)
             valued='bound depth weights conflicts sets cert restart'
-            plain='runs places'
+            plain='runs places all'
             ;;
         check)
             valued='bound depth weights conflicts sets'
+            plain=all
             files='PROGRAM INPUT CERT'
             ;;
         run) ;;
         rank)
             valued='bound depth weights conflicts sets restart'
             files='PROGRAM INPUTS'
+            ;;
+        repair)
+            valued='bound depth weights conflicts sets restart'
+            files='PROGRAM FAILING PASSING'
             ;;
         sample)
             valued=
@@ -104,7 +109,8 @@ read_file() {
     next=${wanted%% *}
     case $next in
         PROGRAM) program_file=$1 ;;
-        INPUT | INPUTS) input_file=$1 ;;
+        INPUT | INPUTS | FAILING) input_file=$1 ;;
+        PASSING) passing_file=$1 ;;
         CERT) certificate_file=$1 ;;
         N) read_value N "$1" '' ;;
         *) blame 'words too many' "$1" " $files" ;;
@@ -144,7 +150,7 @@ read_later_words() {
 }
 
 read_words() {
-    fault='' given='' program_file='' input_file='' certificate_file='' weights_file=''
+    fault='' given='' program_file='' input_file='' passing_file='' certificate_file='' weights_file=''
     if [ $# -eq 0 ]; then
         blame 'words none' 'no word is given'
     elif ! set_usage "$1"; then
@@ -161,6 +167,8 @@ read_words() {
             blame 'words bound' --bound
         elif is_among places "$given" && is_among cert "$given"; then
             blame 'words places' --places
+        elif is_among places "$given" && is_among all "$given"; then
+            blame 'words places all' --places
         fi
     fi
 }
@@ -278,7 +286,8 @@ explain_certificate() {
 name_of() {
     case $1 in
         program) tell "$program_file" ;;
-        input | inputs) tell "$input_file" ;;
+        input | inputs | failing) tell "$input_file" ;;
+        passing) tell "$passing_file" ;;
         weights) tell "$weights_file" ;;
         certificate) tell "$certificate_file" ;;
     esac
@@ -289,7 +298,12 @@ explain_unreadable() {
     kind=other
     [ ! -d "$name" ] || kind=folder
     [ -e "$name" ] || kind=none
-    tell "$name: the $1 cannot be read: $(sentence "unreadable $kind")"
+    case $1 in
+        failing) what='failing input' ;;
+        passing) what='file of passing inputs' ;;
+        *) what=$1 ;;
+    esac
+    tell "$name: the $what cannot be read: $(sentence "unreadable $kind")"
 }
 
 # Says on standard error what the program's answer means, a line that it printed, where it is a refusal.
@@ -301,8 +315,13 @@ explain() {
     case $answer in
         'refused: words') [ -z "$fault" ] || tell "bugassist: $what: $(sentence "$fault")$more" ;;
         'refused: program, error '*) explain_program "$answer" ;;
-        'refused: input, error '*) explain_input "$answer" ;;
+        'refused: input, error '* | 'refused: failing, error '*) explain_input "$answer" ;;
         'refused: inputs, error '*) explain_inputs "$answer" ;;
+        'refused: passing, error '*)
+            input_file=$passing_file
+            explain_inputs "$answer"
+            ;;
+        'fails: line '*) point_at_line "$passing_file" "${answer##* }" "$(sentence fails)" ;;
         'refused: too large') tell "$program_file: too large: $(sentence 'too large')" ;;
         'beyond bound at '*)
             rest=${answer#beyond bound at }

@@ -25,12 +25,14 @@ status_of (answer.Sampled additions weight sets) = status.Ok
 status_of (answer.AssertFails at) = status.Ok
 status_of (answer.Trap at) = status.Ok
 status_of (answer.Ranked bytes) = status.Ok
+status_of (answer.Edits bytes) = status.Ok
 status_of (answer.NotFailing line) = status.NotFailing
 status_of answer.BadWords = status.BadWords
 status_of (answer.BadProgram fault) = status.BadProgram
 status_of (answer.BadInput which fault line) = status.BadInput
 status_of answer.TooLarge = status.TooLarge
 status_of (answer.BeyondBound at line) = status.BeyondBound
+status_of (answer.PassingFails line) = status.PassingFails
 status_of answer.NoRepair = status.NoRepair
 status_of (answer.TooManySets weight most line) = status.TooManySets
 status_of (answer.BudgetSpent conflicts line) = status.BudgetSpent
@@ -57,6 +59,7 @@ number_of status.WriteFault = 12
 number_of status.Memory = 13
 number_of status.TooLong = 14
 number_of status.BadWeights = 15
+number_of status.PassingFails = 17
 
 -- PARTS of the texts
 
@@ -113,6 +116,8 @@ abbrev pub file_word : File → List ℕ
 file_word file.Program = codes "program"
 file_word file.Input = codes "input"
 file_word file.Inputs = codes "inputs"
+file_word file.Failing = codes "failing"
+file_word file.Passing = codes "passing"
 file_word file.Weights = codes "weights"
 file_word file.Certificate = codes "certificate"
 
@@ -127,6 +132,7 @@ claim_text claim.BudgetSpent = codes "budget spent"
 abbrev pub text_of : Answer → List ℕ
 text_of (answer.Located bytes) = bytes
 text_of (answer.Ranked bytes) = bytes
+text_of (answer.Edits bytes) = bytes
 text_of (answer.Accepted claimed) = codes "accepted: " ++ claim_text claimed ++ codes "\n"
 text_of (answer.Sampled additions weight sets) =
     codes "sample " ++ decimal additions ++ codes ": weight " ++ decimal weight ++ codes ", sets " ++
@@ -145,6 +151,7 @@ text_of (answer.BadInput which fault line) =
 text_of answer.TooLarge = codes "refused: too large\n"
 text_of (answer.BeyondBound at line) =
     codes "beyond bound at " ++ at_text at ++ behind_colon line ++ codes "\n"
+text_of (answer.PassingFails line) = codes "fails: line " ++ decimal line ++ codes "\n"
 text_of answer.NoRepair = codes "no repair\n"
 text_of (answer.TooManySets weight most line) =
     codes "too many sets: weight " ++ decimal weight ++ codes ", more than " ++ decimal most

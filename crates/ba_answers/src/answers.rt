@@ -57,6 +57,8 @@ pub enum Answer {
     Accepted(Claim),
     /// The statements were ranked over several inputs; this is their report.
     Ranked(Items<u8>),
+    /// The edits at the statements of the least sets were tried; this is the report of the good ones.
+    Edits(Items<u8>),
     /// The run fails at the assertion that begins at this position.
     AssertFails(At),
     /// The run traps at the statement that begins at this position.
@@ -86,6 +88,8 @@ pub enum Answer {
         /// The line of the run's input, if there are several inputs.
         line: Option<u64>,
     },
+    /// The run on the input in this line had to pass, and doesn't: it fails, or exceeds a bound.
+    PassingFails(u64),
     /// No set of statements could repair the run.
     NoRepair,
     /// There are more least sets than may be listed.
@@ -134,6 +138,7 @@ impl Drop for Answer {
             } => {}
             Answer::Accepted(_) => {}
             Answer::Ranked(_) => {}
+            Answer::Edits(_) => {}
             Answer::AssertFails(_) => {}
             Answer::Trap(_) => {}
             Answer::NotFailing { line: _ } => {}
@@ -146,6 +151,7 @@ impl Drop for Answer {
             } => {}
             Answer::TooLarge => {}
             Answer::BeyondBound { at: _, line: _ } => {}
+            Answer::PassingFails(_) => {}
             Answer::NoRepair => {}
             Answer::TooManySets {
                 weight: _,
@@ -171,13 +177,15 @@ impl Answer {
     {
         match self {
             Answer::Located(_) | Answer::Sampled { .. } | Answer::Accepted(_) => Status::Ok,
-            Answer::Ranked(_) | Answer::AssertFails(_) | Answer::Trap(_) => Status::Ok,
+            Answer::Ranked(_) | Answer::Edits(_) => Status::Ok,
+            Answer::AssertFails(_) | Answer::Trap(_) => Status::Ok,
             Answer::NotFailing { .. } => Status::NotFailing,
             Answer::BadWords => Status::BadWords,
             Answer::BadProgram(_) => Status::BadProgram,
             Answer::BadInput { .. } => Status::BadInput,
             Answer::TooLarge => Status::TooLarge,
             Answer::BeyondBound { .. } => Status::BeyondBound,
+            Answer::PassingFails(_) => Status::PassingFails,
             Answer::NoRepair => Status::NoRepair,
             Answer::TooManySets { .. } => Status::TooManySets,
             Answer::BudgetSpent { .. } => Status::BudgetSpent,
@@ -205,7 +213,7 @@ fn push_answer(answer: &Answer, text: &mut Vec<u8>) -> Result<(), AllocError>
     ensures { OnOk result (text.new.items ≡ text.old.items ++ text_of answer.now) }
 {
     match answer {
-        Answer::Located(report) | Answer::Ranked(report) => {
+        Answer::Located(report) | Answer::Ranked(report) | Answer::Edits(report) => {
             text.extend_from_slice(report.as_slice())
         }
         Answer::Sampled {
@@ -222,6 +230,7 @@ fn push_answer(answer: &Answer, text: &mut Vec<u8>) -> Result<(), AllocError>
         Answer::BadInput { file, fault, line } => push_input_fault(*file, *fault, *line, text),
         Answer::TooLarge => text.extend_from_slice(b"refused: too large\n"),
         Answer::BeyondBound { at, line } => push_beyond(*at, *line, text),
+        Answer::PassingFails(line) => push_passing_fails(*line, text),
         Answer::NoRepair => text.extend_from_slice(b"no repair\n"),
         Answer::TooManySets { weight, most, line } => push_too_many(*weight, *most, *line, text),
         Answer::BudgetSpent { conflicts, line } => push_spent(*conflicts, *line, text),
@@ -259,6 +268,8 @@ fn file_word(file: File) -> &'static [u8]
         File::Program => b"program",
         File::Input => b"input",
         File::Inputs => b"inputs",
+        File::Failing => b"failing",
+        File::Passing => b"passing",
         File::Weights => b"weights",
         File::Certificate => b"certificate",
     }
@@ -440,6 +451,14 @@ fn push_line(line: u64, text: &mut Vec<u8>) -> Result<(), AllocError>
     ensures { OnOk result (text.new.items ≡ text.old.items ++ text_of (Answer.BadWeights line)) }
 {
     push_numbered(b"refused: weights, line ", line, text)?;
+    text.extend_from_slice(b"\n")
+}
+
+/// Appends that the program fails on the input in this line.
+fn push_passing_fails(line: u64, text: &mut Vec<u8>) -> Result<(), AllocError>
+    ensures { OnOk result (text.new.items ≡ text.old.items ++ text_of (Answer.PassingFails line)) }
+{
+    push_numbered(b"fails: line ", line, text)?;
     text.extend_from_slice(b"\n")
 }
 

@@ -10,6 +10,10 @@ pub enum File {
     Input,
     /// The inputs of several runs, one a line.
     Inputs,
+    /// The input on which the program as written fails, and an edited one is to pass.
+    Failing,
+    /// The inputs on which both pass, one a line.
+    Passing,
     Weights,
     /// The certificate to check.
     Certificate,
@@ -21,7 +25,8 @@ impl File {
         ensures { result ≡ limit_of self }
     {
         match self {
-            File::Program | File::Input | File::Inputs | File::Weights => LIMIT,
+            File::Program | File::Input | File::Inputs | File::Failing | File::Passing => LIMIT,
+            File::Weights => LIMIT,
             File::Certificate => CERTIFICATE_LIMIT,
         }
     }

@@ -6,8 +6,9 @@ ghost use Rattle.ba_answers.specs.Printed.{number_of};
 /// The exit status of the program.
 #[derive(Clone, Copy, Debug, PartialEq, Eq)]
 pub enum Status {
-    /// The call has what it asked for. The least sets were found and reported, a certificate was accepted, or
-    /// statements were ranked. Or a program that was to be run failed, and its position was printed.
+    /// The call has what it asked for. The least sets were found and reported, a certificate was accepted,
+    /// statements were ranked, or edits were tried. Or a program that was to be run failed, and its position
+    /// was printed.
     Ok = 0,
     /// The run as written meets every assertion: there is nothing to repair.
     NotFailing = 1,
@@ -39,6 +40,8 @@ pub enum Status {
     TooLong = 14,
     /// A line of the weights is refused.
     BadWeights = 15,
+    /// A run that had to pass doesn't. There is no status 16.
+    PassingFails = 17,
 }
 
 impl Status {

@@ -20,6 +20,7 @@ use Rattle.ba_tree.specs.declared.tree.StmtInfo.{StmtInfo}
 use Rattle.ba_tree_laws.specs.Equivalent.{AreEquivalent}
 use Rattle.ba_answers.specs.declared.answers.Answer.{Answer}
 use Rattle.ba_answers.specs.declared.answers.Answer.TheVariants as answer
+use Rattle.ba_answers.specs.declared.file.File.{File}
 use Rattle.ba_answers.specs.declared.file.File.TheVariants as file
 use Rattle.ba_cases.specs.AtOnce.{at_once, case_answer, fault_of, first_answer, input_of, input_refusal, position_of, run_in, size_refusal, unfailing, unit_limit, weights_refusal}
 use Rattle.ba_cases.specs.declared.texts.Texts.{Texts}
@@ -57,8 +58,9 @@ module _ (p q : Program) (equal : AreEquivalent p q) where
   ends_alike line (outcome.Trap stmt) = refl
   ends_alike line outcome.WrongChoices = refl
 
-  pub refusals_alike : (text : List ℕ) → input_refusal p text ≡ input_refusal q text
-  refusals_alike text = ap (option_map (λ (f : InputFault). answer.BadInput file.Input (fault_of f) None))
+  pub refusals_alike : (which : File) (text : List ℕ) → input_refusal which p text ≡ input_refusal which q
+      text
+  refusals_alike which text = ap (option_map (λ (f : InputFault). answer.BadInput which (fault_of f) None))
       (equal.input_faults text)
 
   sizes_alike : (bounds : Bounds) → size_refusal p bounds ≡ size_refusal q bounds
@@ -75,6 +77,8 @@ module _ (p q : Program) (equal : AreEquivalent p q) where
       ∙ ap (λ a. first_answer (others ∷ weights_refusal weights ∷ size_refusal q bounds ∷ a ∷ [])) of_runs
 
   pub case_alike : (bounds : Bounds) (x : Texts) → case_answer bounds x p ≡ case_answer bounds x q
-  case_alike bounds x = at_once_alike (input_refusal p x.input) (input_refusal q x.input) x.weights bounds
-      (unfailing p None (run_in bounds x p)) (unfailing q None (run_in bounds x q)) (refusals_alike x.input)
+  case_alike bounds x = at_once_alike
+      (input_refusal file.Input p x.input) (input_refusal file.Input q x.input) x.weights bounds
+      (unfailing p None (run_in bounds x p)) (unfailing q None (run_in bounds x q))
+      (refusals_alike file.Input x.input)
       (ap (unfailing p None) (runs_alike x.input bounds) ∙ ends_alike None (run_in bounds x q))

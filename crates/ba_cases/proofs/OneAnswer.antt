@@ -9,10 +9,12 @@ use Rattle.ba_tree.specs.declared.run.Bounds.{Bounds}
 use Rattle.ba_tree.specs.declared.tree.Program.{Program}
 use Rattle.ba_tree_laws.specs.Equivalent.{AreEquivalent}
 use Rattle.ba_tree_laws.specs.Spelling.{Spells}
+use Rattle.ba_cases.specs.AllCases.{all_answer}
 use Rattle.ba_cases.specs.AtOnce.{IsAtOnce, case_answer, no_program, of_program}
 use Rattle.ba_cases.specs.Searching.{Agree, IsAnswerOf, IsOfSearch, are_one, at_once as answers_at_once, by_search}
 use Rattle.ba_cases.specs.declared.texts.Texts.{Texts}
 use Rattle.ba_cases.proofs.Alike.{case_alike}
+use Rattle.ba_cases.proofs.InputsAlike.{all_answers_alike}
 use Rattle.ba_cases.proofs.OneText.{meaning_same, no_fault, one_fault}
 
 -- the same is said of all programs of one meaning
@@ -21,6 +23,9 @@ IsOfMeaning first = (p q : Program) → AreEquivalent p q → first p ≡ first 
 
 pub case_of_meaning : (b : Bounds) (x : Texts) → IsOfMeaning (case_answer b x)
 case_of_meaning b x p q same = case_alike p q same b x
+
+pub all_of_meaning : (b : Bounds) (x : Texts) → IsOfMeaning (all_answer b x)
+all_of_meaning b x p q same = all_answers_alike p q same b x
 
 -- THE ANSWERS OF A TEXT AGREE
 

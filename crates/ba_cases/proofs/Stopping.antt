@@ -5,7 +5,7 @@ use Rattle.ba_answers.specs.declared.answers.Answer.{Answer}
 use Rattle.ba_tree.specs.declared.run.Bounds.{Bounds}
 use Rattle.ba_tree.specs.declared.tree.Program.{Program}
 use Rattle.ba_tree_laws.specs.Spelling.{Spells}
-use Rattle.ba_cases.specs.AtOnce.{IsAtOnce, IsNoProgram, IsStopped, Tells, at_once, first_answer, no_program, of_program, size_refusal, weights_refusal}
+use Rattle.ba_cases.specs.AtOnce.{IsAtOnce, IsNoProgram, IsStopped, Tells, first_answer, no_program, of_program, size_refusal, weights_refusal}
 use Rattle.ba_cases.specs.declared.stop.Stop.{Stop}
 use Rattle.ba_cases.specs.declared.stop.Stop.TheVariants as stop
 
@@ -23,52 +23,57 @@ pub stops_unspelled : (source : List ℕ) (first : Program → Option Answer) (w
 stops_unspelled source first (stop.Answered a) (fault, is, told) = no_program fault is told
 stops_unspelled source first stop.Memory none = tt
 
--- the answer at once, by a mode's refusal of the inputs and by what its runs come to
-abbrev pub first_by : (Program → Option Answer) → List ℕ → Bounds → (Program → Option Answer) → Program →
-    Option Answer
-first_by inputs weights bounds runs p = at_once (inputs p) weights bounds (runs p) p
+-- the answer at once, by a mode's refusals of the inputs and of the size, and by what its runs come to
+abbrev pub first_by : (Program → Option Answer) → List ℕ → (Program → Option Answer) →
+    (Program → Option Answer) → Program → Option Answer
+first_by inputs weights sizes runs p =
+    first_answer (inputs p ∷ weights_refusal weights ∷ sizes p ∷ runs p ∷ [])
 
-module _ (source : List ℕ) (inputs : Program → Option Answer) (weights : List ℕ) (bounds : Bounds)
-    (runs : Program → Option Answer) (p : Program) (spells : Spells source p) where
+-- the refusals of programs for their size
+abbrev pub sizes_in : Bounds → Program → Option Answer
+sizes_in bounds p = size_refusal p bounds
+
+module _ (source : List ℕ) (inputs : Program → Option Answer) (weights : List ℕ)
+    (sizes runs : Program → Option Answer) (p : Program) (spells : Spells source p) where
   stops_at : (why : Stop) (due : Option Answer) (others : List (Option Answer)) → Tells why due →
-      first_by inputs weights bounds runs p ≡ first_answer (due ∷ others) →
-      IsStopped source (first_by inputs weights bounds runs) why
+      first_by inputs weights sizes runs p ≡ first_answer (due ∷ others) →
+      IsStopped source (first_by inputs weights sizes runs) why
   stops_at (stop.Answered a) due others told is = of_program p spells (is ∙ ends_at due others a told)
   stops_at stop.Memory due others told is = tt
 
   pub stops_inputs : (why : Stop) → Tells why (inputs p) →
-      IsStopped source (first_by inputs weights bounds runs) why
+      IsStopped source (first_by inputs weights sizes runs) why
   stops_inputs why told =
-      stops_at why (inputs p) (weights_refusal weights ∷ size_refusal p bounds ∷ runs p ∷ []) told refl
+      stops_at why (inputs p) (weights_refusal weights ∷ sizes p ∷ runs p ∷ []) told refl
 
   module _ (input : inputs p ≡ None) where
     pub stops_weights : (why : Stop) → Tells why (weights_refusal weights) →
-        IsStopped source (first_by inputs weights bounds runs) why
-    stops_weights why told = stops_at why (weights_refusal weights) (size_refusal p bounds ∷ runs p ∷ []) told
-        (goes_on (inputs p) (weights_refusal weights ∷ size_refusal p bounds ∷ runs p ∷ []) input)
+        IsStopped source (first_by inputs weights sizes runs) why
+    stops_weights why told = stops_at why (weights_refusal weights) (sizes p ∷ runs p ∷ []) told
+        (goes_on (inputs p) (weights_refusal weights ∷ sizes p ∷ runs p ∷ []) input)
 
     module _ (weight : weights_refusal weights ≡ None) where
-      to_size : first_by inputs weights bounds runs p ≡ first_answer (size_refusal p bounds ∷ runs p ∷ [])
-      to_size = goes_on (inputs p) (weights_refusal weights ∷ size_refusal p bounds ∷ runs p ∷ []) input
-          ∙ goes_on (weights_refusal weights) (size_refusal p bounds ∷ runs p ∷ []) weight
+      to_size : first_by inputs weights sizes runs p ≡ first_answer (sizes p ∷ runs p ∷ [])
+      to_size = goes_on (inputs p) (weights_refusal weights ∷ sizes p ∷ runs p ∷ []) input
+          ∙ goes_on (weights_refusal weights) (sizes p ∷ runs p ∷ []) weight
 
-      pub stops_size : (why : Stop) → Tells why (size_refusal p bounds) →
-          IsStopped source (first_by inputs weights bounds runs) why
-      stops_size why told = stops_at why (size_refusal p bounds) (runs p ∷ []) told to_size
+      pub stops_size : (why : Stop) → Tells why (sizes p) →
+          IsStopped source (first_by inputs weights sizes runs) why
+      stops_size why told = stops_at why (sizes p) (runs p ∷ []) told to_size
 
-      module _ (size : size_refusal p bounds ≡ None) where
-        to_runs : first_by inputs weights bounds runs p ≡ first_answer (runs p ∷ [])
-        to_runs = to_size ∙ goes_on (size_refusal p bounds) (runs p ∷ []) size
+      module _ (size : sizes p ≡ None) where
+        to_runs : first_by inputs weights sizes runs p ≡ first_answer (runs p ∷ [])
+        to_runs = to_size ∙ goes_on (sizes p) (runs p ∷ []) size
 
         pub stops_runs : (why : Stop) → Tells why (runs p) →
-            IsStopped source (first_by inputs weights bounds runs) why
+            IsStopped source (first_by inputs weights sizes runs) why
         stops_runs why told = stops_at why (runs p) [] told to_runs
 
         -- its runs come to an answer
         pub answers_runs : (a : Answer) → runs p ≡ Some a →
-            IsAtOnce source (first_by inputs weights bounds runs) a
+            IsAtOnce source (first_by inputs weights sizes runs) a
         answers_runs a is = of_program p spells (to_runs ∙ ends_at (runs p) [] a is)
 
         -- or to none
-        pub none_at_once : runs p ≡ None → first_by inputs weights bounds runs p ≡ None
+        pub none_at_once : runs p ≡ None → first_by inputs weights sizes runs p ≡ None
         none_at_once none = to_runs ∙ goes_on (runs p) [] none

@@ -25,6 +25,7 @@ use Rattle.ba_answers.specs.declared.answers.Answer.TheVariants as answer
 use Rattle.ba_answers.specs.declared.answers.InputFault.{InputFault}
 use Rattle.ba_answers.specs.declared.answers.InputFault.TheVariants as fault
 use Rattle.ba_answers.specs.declared.fault.Fault.{Fault}
+use Rattle.ba_answers.specs.declared.file.File.{File}
 use Rattle.ba_answers.specs.declared.file.File.TheVariants as file
 use Rattle.ba_cases.specs.Programs.{IsFault}
 use Rattle.ba_cases.specs.declared.stop.Stop.{Stop}
@@ -43,9 +44,9 @@ fault_of (inputs.NotANumber number) = fault.NotANumber number
 fault_of (inputs.OutOfRange number) = fault.OutOfRange number
 fault_of inputs.WrongCount = fault.WrongCount
 
--- the refusal of a text as the one input
-abbrev pub input_refusal : Program → List ℕ → Option Answer
-input_refusal p text = option_map (λ f. answer.BadInput file.Input (fault_of f) None) (input_fault p text)
+-- the refusal of a text as the one input that this file gives
+abbrev pub input_refusal : File → Program → List ℕ → Option Answer
+input_refusal which p text = option_map (λ f. answer.BadInput which (fault_of f) None) (input_fault p text)
 
 -- the refusal of a text as weights
 abbrev pub weights_refusal : List ℕ → Option Answer
@@ -101,7 +102,7 @@ run_in bounds x p = plain_run p (input_of p x.input) bounds
 -- the answer before any search to a program with one input
 abbrev pub case_answer : Bounds → Texts → Program → Option Answer
 case_answer bounds x p =
-    at_once (input_refusal p x.input) x.weights bounds (unfailing p None (run_in bounds x p)) p
+    at_once (input_refusal file.Input p x.input) x.weights bounds (unfailing p None (run_in bounds x p)) p
 
 -- A TEXT HAS AN ANSWER AT ONCE: it spells no program; or it spells a program that has this answer
 pub data IsAtOnce (source : List ℕ) (first : Program → Option Answer) (a : Answer) : Type 0 where

@@ -1,5 +1,5 @@
--- THE FILES OF A CALL are read whole, and their texts have the answer. Which files these are, and what is
--- said of their texts, the mode says.
+-- THE FILES OF A CALL are read whole, and their texts have the answer. Which files these are, how their texts
+-- are held, and what is said of them, the mode says.
 
 use Rattle.std.specs.Prelude.{◌≡◌, ℕ, Option, None, Some, List, [], ◌∷◌, length, ◌≤◌}
 use Rattle.ba_answers.specs.Limits.{limit}
@@ -28,6 +28,10 @@ files_for program which input weights =
 abbrev pub parts_of : Texts → List (List ℕ)
 parts_of x = x.program ∷ x.input ∷ x.weights ∷ []
 
+-- the text of the program
+abbrev pub source_of : Texts → List ℕ
+source_of x = x.program
+
 -- no text is longer than a file may be
 pub record AreShort (x : Texts) : Type 0 where
   pub program : length x.program ≤ limit
@@ -47,30 +51,31 @@ StopsUnread files before after stop.Memory = Unit {0}
 
 -- THE ANSWER OF FILES. One wasn't read, and this is the answer. Or all were read, and the answer is that of
 -- their texts and of what is read after them. These derivations were handed to the sink of steps.
-pub data FilesComeTo (files : List Named) (row : Texts → Outside → Outside → List Derivation → Answer → Type 0)
+pub data FilesComeTo {X : Type 0} (parts : X → List (List ℕ)) (files : List Named)
+    (row : X → Outside → Outside → List Derivation → Answer → Type 0)
     (before after : Outside) (handed : List Derivation) (a : Answer) : Type 0
   where
-    unread : IsUnreadAs files before after a → handed ≡ [] → FilesComeTo files row before after handed a
-    by_texts : (x : Texts) (read : Outside) → AreRead files (parts_of x) before read →
-        row x read after handed a → FilesComeTo files row before after handed a
+    unread : IsUnreadAs files before after a → handed ≡ [] → FilesComeTo parts files row before after handed a
+    by_texts : (x : X) (read : Outside) → AreRead files (parts x) before read →
+        row x read after handed a → FilesComeTo parts files row before after handed a
 
 -- the texts alone have the answer: nothing more is read
-abbrev pub Unaided : (Texts → List Derivation → Answer → Type 0) → Texts → Outside → Outside →
+abbrev pub Unaided : {X : Type 0} → (X → List Derivation → Answer → Type 0) → X → Outside → Outside →
     List Derivation → Answer → Type 0
 Unaided row x read after handed a = (after ≡ read) × row x handed a
 
 -- THE ANSWER THAT IS DUE to told files: an answer of their texts; or that one can't be read, or is too long
-pub data FilesAreDue (files : List Named) (row : Texts → Answer → Type 0) (before : Outside) (a : Answer) :
-    Type 0 where
-  of_texts : (x : Texts) → TellsAll before files (parts_of x) → row x a → FilesAreDue files row before a
+pub data FilesAreDue {X : Type 0} (parts : X → List (List ℕ)) (files : List Named) (row : X → Answer → Type 0)
+    (before : Outside) (a : Answer) : Type 0 where
+  of_texts : (x : X) → TellsAll before files (parts x) → row x a → FilesAreDue parts files row before a
   stopped : (which : File) (error : ReadFileError) → TellsStop which error before files →
-      answer_for which error ≡ Some a → FilesAreDue files row before a
+      answer_for which error ≡ Some a → FilesAreDue parts files row before a
 
 -- the world tells all files, and their program has no answer at once
-pub record TellsUndecided (files : List Named) (first : Texts → Program → Option Answer) (before : Outside) :
-    Type 0 where
-  pub texts : Texts
-  pub told : TellsAll before files (parts_of texts)
+pub record TellsUndecided {X : Type 0} (parts : X → List (List ℕ)) (source : X → List ℕ) (files : List Named)
+    (first : X → Program → Option Answer) (before : Outside) : Type 0 where
+  pub texts : X
+  pub told : TellsAll before files (parts texts)
   pub program : Program
-  pub spelled : Spells texts.program program
+  pub spelled : Spells (source texts) program
   pub undecided : first texts program ≡ None

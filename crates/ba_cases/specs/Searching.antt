@@ -32,6 +32,7 @@ abbrev pub IsOfSearch : Answer → Type 0
 IsOfSearch (answer.Located bytes) = Unit {0}
 IsOfSearch (answer.Sampled additions weight sets) = Unit {0}
 IsOfSearch (answer.Ranked bytes) = Unit {0}
+IsOfSearch (answer.Edits bytes) = Unit {0}
 IsOfSearch answer.NoRepair = Unit {0}
 IsOfSearch (answer.TooManySets weight most line) = Unit {0}
 IsOfSearch (answer.BudgetSpent conflicts line) = Unit {0}

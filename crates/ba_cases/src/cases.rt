@@ -10,6 +10,7 @@ use crate::parts::{check_failing, check_size, plain_run, read_one_input, read_we
 use crate::programs::read_program;
 use crate::stop::Stop;
 use crate::texts::Texts;
+use ba_answers::file::File;
 use ba_tree::run::{Bounds, Input, Weights};
 use ba_tree::tree::Program;
 use std::alloc::Global;
@@ -44,7 +45,7 @@ pub fn read_case(alloc: Global, texts: &Texts, bounds: Bounds) -> Result<Case, S
     ensures err { IfErr result (IsStopped texts.now.program (case_answer bounds texts.now)) }
 {
     let program = read_program(alloc, texts.program.as_slice())?;
-    let input = read_one_input(alloc, &program, texts.input.as_slice())?;
+    let input = read_one_input(alloc, File::Input, &program, texts.input.as_slice())?;
     let weights = read_weights_of(alloc, &program, texts.weights.as_slice())?;
     check_size(&program, bounds)?;
     let outcome = plain_run(alloc, &program, &input, bounds)?;

@@ -2,6 +2,7 @@
 
 ghost use Rattle.std.specs.Prelude.{◌≡◌, ℕ, Option, None, true};
 ghost use Rattle.ba_answers.specs.declared.answers.Answer.{Answer};
+ghost use Rattle.ba_cases.specs.AllCases.{all_answer};
 ghost use Rattle.ba_cases.specs.AtOnce.{IsAtOnce, case_answer, is_failure, unfailing};
 ghost use Rattle.ba_cases.specs.declared.texts.Texts.{Texts};
 ghost use Rattle.ba_tree.specs.Run.{plain_run};
@@ -14,6 +15,13 @@ pub fn one_case_answer()
     ensures { (bounds : Bounds) (x : Texts) (a b : Answer)
         → IsAtOnce x.program (case_answer bounds x) a
         → IsAtOnce x.program (case_answer bounds x) b → a ≡ b }
+{}
+
+/// Law: texts with several inputs taken together have at most one answer before a search.
+pub fn one_answer_of_inputs()
+    ensures { (bounds : Bounds) (x : Texts) (a b : Answer)
+        → IsAtOnce x.program (all_answer bounds x) a
+        → IsAtOnce x.program (all_answer bounds x) b → a ≡ b }
 {}
 
 /// Law: a run as written without an answer before a search fails. An assertion fails, or there is a trap.

@@ -24,15 +24,20 @@ use ba_units::units;
 use std::alloc::{AllocError, Global};
 
 /// The limit on units of a program.
-const UNIT_LIMIT: u32 = 20000;
+pub(crate) const UNIT_LIMIT: u32 = 20000;
 
-/// The input that a text writes for a program. Else the refusal of the text, or out of memory.
-pub fn read_one_input(alloc: Global, program: &Program, text: &[u8]) -> Result<Input, Stop>
+/// The input that the text of a file writes for a program. Else the refusal of the text, or out of memory.
+pub fn read_one_input(
+    alloc: Global,
+    file: File,
+    program: &Program,
+    text: &[u8],
+) -> Result<Input, Stop>
     requires { length text.now ≤ limit }
     ensures ok { IfOk result (λ input. input ≡ input_of program.now text.now) }
     ensures fits { IfOk result (λ input. fits program.now input ≡ true) }
-    ensures accepted { IfOk result (λ _. input_refusal program.now text.now ≡ None) }
-    ensures err { IfErr result (λ stop. Tells stop (input_refusal program.now text.now)) }
+    ensures accepted { IfOk result (λ _. input_refusal file program.now text.now ≡ None) }
+    ensures err { IfErr result (λ stop. Tells stop (input_refusal file program.now text.now)) }
 {
     let fault = match read_input(alloc, program, text) {
         Ok(input) => return Ok(input),
@@ -42,7 +47,7 @@ pub fn read_one_input(alloc: Global, program: &Program, text: &[u8]) -> Result<I
         Err(InputError::Memory) => return Err(Stop::Memory),
     };
     Err(Stop::Answered(Answer::BadInput {
-        file: File::Input,
+        file,
         fault,
         line: None,
     }))

@@ -22,15 +22,19 @@ use Rattle.ba_choices.specs.Judges.{Judge}
 use Rattle.ba_tree.specs.declared.run.Input.{Input}
 use Rattle.ba_tree.specs.declared.tree.Program.{Program}
 
--- the problem of a program's run, over an encoding
-abbrev pub problem_of : Program → Input → Settings → Encoded → Problem
-problem_of p input settings encoded = record {
+-- the problem that an encoding poses, where runs are good as a judge says
+abbrev pub problem_by : Judge → Settings → Encoded → Problem
+problem_by good settings encoded = record {
   formula = encoded.formula;
   softs = softs_of encoded.groups;
-  good = judge_of p input settings.bounds;
+  good = good;
   conflicts = settings.conflicts;
   most_sets = settings.sets;
 }
+
+-- that of a program's run
+abbrev pub problem_of : Program → Input → Settings → Encoded → Problem
+problem_of p input settings = problem_by (judge_of p input settings.bounds) settings
 
 -- the settings of a call, as a certificate has them
 abbrev pub head_of : Settings → CertHead

@@ -1,14 +1,13 @@
 //! A certificate that comes in pieces.
 
-ghost use Rattle.std.specs.Prelude.{◌≡◌, ◌++◌, ℕ, List, [], None, Err, true, IfOk, IfSome};
+ghost use Rattle.std.specs.Prelude.{◌≡◌, ◌++◌, ℕ, List, [], None, Err, IfOk, IfSome};
 ghost use Rattle.ba_cert.specs.declared.head.CertHead.{CertHead};
-ghost use Rattle.ba_check.specs.Answers.{Answers, head_of, problem_of};
+ghost use Rattle.ba_check.specs.Answers.{Answers, head_of, problem_by};
 ghost use Rattle.ba_check.specs.Readers.{seen};
 ghost use Rattle.ba_check.specs.Readings.{HasRead, answer_by};
 ghost use Rattle.ba_derivations.specs.Derivations.{Problem};
 ghost use Rattle.ba_encode.specs.Softs.{softs_of};
 ghost use Rattle.ba_checker.specs.Facts.{AreSelectors};
-ghost use Rattle.ba_tree.specs.Run.{are_bounds};
 
 use crate::checked_lines::CheckedLines;
 use crate::confirmed::Confirmed;
@@ -18,38 +17,34 @@ use crate::settings::{Settings, head_of};
 use ba_cert::CertHead;
 use ba_checker::Checker;
 use ba_encode::{Encoded, softs_of};
-use ba_judge::ProgramJudge;
-use ba_tree::run::Input;
-use ba_tree::tree::Program;
+use ba_steps::RunJudge;
 use std::alloc::{AllocError, Global};
 
 /// A reader that takes a certificate in pieces, and checks each line once its line feed is there. It keeps
 /// only what follows the last line feed. An error is answered from then on.
 #[derive(Drop)]
-pub struct Confirm<'a> {
+pub struct Confirm<J> {
     head: CertHead,
-    judge: ProgramJudge<'a>,
+    judge: J,
     reading: LineReader,
     refusal: Option<CheckError>,
 }
 
-impl<'a> Confirm<'a> {
-    /// A reader that has read nothing, over an encoding of the program's run.
+impl<J: RunJudge + Drop> Confirm<J> {
+    /// A reader that has read nothing, over an encoding of which runs are good as this judge says.
     ///
     /// The only error is out of memory.
     pub fn new(
         alloc: Global,
-        program: &'a Program,
-        input: &'a Input,
+        judge: J,
         settings: Settings,
         encoded: &Encoded,
-    ) -> Result<Confirm<'a>, AllocError>
-        requires bounds { are_bounds settings.bounds ≡ true }
+    ) -> Result<Confirm<J>, AllocError>
         requires selectors { AreSelectors encoded.now.formula.variables
             (softs_of encoded.now.groups) }
         ensures nothing_read { IfOk result (λ confirm. HasRead (head_of settings)
-            (problem_of program.now input.now settings encoded.now) [] (seen confirm)) }
-        ensures no_refusal { IfOk result (λ confirm. (seen confirm).refusal ≡ None) }
+            (problem_by (J.accepts judge) settings encoded.now) [] (seen J.accepts confirm)) }
+        ensures no_refusal { IfOk result (λ confirm. (seen J.accepts confirm).refusal ≡ None) }
     {
         let softs = softs_of(alloc, encoded)?;
         let checker = Checker::new(
@@ -61,7 +56,7 @@ impl<'a> Confirm<'a> {
         )?;
         Ok(Confirm {
             head: head_of(settings),
-            judge: ProgramJudge::new(alloc, program, input, settings.bounds),
+            judge,
             reading: LineReader {
                 checked: CheckedLines::new(alloc, checker),
                 rest: Vec::new(alloc),
@@ -76,9 +71,11 @@ impl<'a> Confirm<'a> {
     /// other error is out of memory. After an error nothing changes any more, and the answer stays the same.
     pub fn feed(&mut self, piece: &[u8]) -> Result<(), CheckError>
         ensures reads { (h : CertHead) (p : Problem) (text : List ℕ)
-            → HasRead h p text (seen self.old) → HasRead h p (text ++ piece.now) (seen self.new) }
+            → HasRead h p text (seen J.accepts self.old)
+            → HasRead h p (text ++ piece.now) (seen J.accepts self.new) }
         ensures answer { result ≡ answer_by self.new.refusal }
-        ensures again { IfSome self.old.refusal (λ _. seen self.new ≡ seen self.old) }
+        ensures again { IfSome self.old.refusal
+            (λ _. seen J.accepts self.new ≡ seen J.accepts self.old) }
     {
         if let Some(refusal) = self.refusal {
             return Err(refusal);
@@ -95,8 +92,8 @@ impl<'a> Confirm<'a> {
     /// memory.
     pub fn finish(self) -> Result<Confirmed, CheckError>
         ensures answers { (h : CertHead) (p : Problem) (text : List ℕ)
-            → HasRead h p text (seen self.entry) → Answers h p text result }
-        ensures again { IfSome self.entry.refusal (λ error. result ≡ Err error) }
+            → HasRead h p text (seen J.accepts self) → Answers h p text result }
+        ensures again { IfSome self.refusal (λ error. result ≡ Err error) }
     {
         if let Some(refusal) = self.refusal {
             return Err(refusal);

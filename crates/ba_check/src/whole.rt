@@ -11,6 +11,7 @@ use crate::error::CheckError;
 use crate::pieces::Confirm;
 use crate::settings::Settings;
 use ba_encode::Encoded;
+use ba_judge::ProgramJudge;
 use ba_tree::run::Input;
 use ba_tree::tree::Program;
 use std::alloc::Global;
@@ -33,7 +34,8 @@ pub fn confirm(
     ensures { Answers (head_of settings) (problem_of program.now input.now settings encoded.now)
         text.now result }
 {
-    let mut confirm = Confirm::new(alloc, program, input, settings, encoded)?;
+    let judge = ProgramJudge::new(alloc, program, input, settings.bounds);
+    let mut confirm = Confirm::new(alloc, judge, settings, encoded)?;
     confirm.feed(text)?;
     confirm.finish()
 }

@@ -1,6 +1,6 @@
 -- What `clap` finds in words gives the command that the words are.
 use Rattle.std.proofs.Math.Bool.{and-false}
-use Rattle.std.proofs.Common.{◌≡◌, ℕ, suc, Bool, true, false, cond, ◌&&◌, ◌||◌, ◌==◌, not, inl, inr, Option, None, Some, List, [], ◌∷◌, length, take, drop, codes, refl, sym, ap, ap₂, ◌∙◌, arith, fold, subst, true≢false}
+use Rattle.std.proofs.Common.{◌≡◌, ℕ, suc, Bool, true, false, cond, ◌&&◌, ◌||◌, ◌==◌, not, inl, inr, Option, None, Some, List, [], ◌∷◌, length, map, take, drop, codes, refl, sym, ap, ap₂, ◌∙◌, arith, fold, subst, true≢false}
 use Rattle.std.specs.Prelude.{nat_le, option_and_then, find, is_some, slice_get}
 use Rattle.std.specs.List.{list_all}
 use Rattle.std.specs.Str.{bytes_eq}
@@ -16,10 +16,10 @@ use Rattle.clap.proofs.WalkLemmas.{first_value-rows, one_text-rows}
 use Rattle.ba_tree.proofs.Tests.{both}
 use Rattle.ba_commands.specs.declared.commands.Command.{Command}
 use Rattle.ba_commands.specs.declared.modes.Mode.{Mode}
-use Rattle.ba_commands.specs.declared.modes.Mode.TheVariants.{Localise, Check, Run, Rank, Sample}
+use Rattle.ba_commands.specs.declared.modes.Mode.TheVariants.{Localise, Check, Run, Rank, Repair, Sample}
 use Rattle.ba_commands.specs.Modes.{Usage, Word, usage_of}
 use Rattle.ba_commands.specs.Words.{Part, are_distinct, files_in, has_bound, is_accepted, is_line, options_in, parts_of, split_words, stands}
-use Rattle.ba_commands.specs.Commands.{bounds_from, check_from, command_in, command_of_parts, command_on, command_with, file_at, localise_from, number_of, rank_from, run_from, sample_from, value_in}
+use Rattle.ba_commands.specs.Commands.{bounds_from, check_from, command_in, command_of_parts, command_on, command_with, file_at, localise_from, number_of, rank_from, repair_from, run_from, sample_from, value_in}
 use Rattle.ba_commands.specs.Parsing.{app_for, is_readable}
 use Rattle.ba_commands.proofs.Testing.{eq_comm, not_both, same_either}
 use Rattle.ba_commands.proofs.Splitting.{IsRefused, readable_accepted, unreadable_refused}
@@ -53,39 +53,66 @@ matches_of-walk u first words = refl
 
 -- THE ROWS AT THE END
 
--- the defaults of `--runs` and of `--places`
-abbrev with_switches : List Row → List Row
-with_switches rows =
-    with_default (with_default rows (switch_rule (codes "runs"))) (switch_rule (codes "places"))
+-- the defaults of the switches that have these names
+abbrev defaulted : List Word → List Row → List Row
+defaulted names rows = fold with_default rows (map switch_rule names)
 
-localise-finished : (rows : List Row)
-    → fold with_default rows (rules_in (usage_of Localise)) ≡ with_switches rows
-localise-finished rows =
+-- the rows of a mode: no argument but a switch has a default
+finished : (mode : Mode) (rows : List Row)
+    → fold with_default rows (rules_in (usage_of mode)) ≡ defaulted (usage_of mode).plain rows
+finished Localise rows =
     defaults_behind (take 7 (rules_in (usage_of Localise))) (drop 7 (rules_in (usage_of Localise))) rows
     (refl, (refl, (refl, (refl, (refl, (refl, (refl, tt)))))))
-    ∙ no_defaults (drop 9 (rules_in (usage_of Localise))) (with_switches rows) (refl, (refl, tt))
+    ∙ no_defaults (drop 10 (rules_in (usage_of Localise))) (defaulted (usage_of Localise).plain rows)
+    (refl, (refl, tt))
+finished Check rows =
+    defaults_behind (take 5 (rules_in (usage_of Check))) (drop 5 (rules_in (usage_of Check))) rows
+    (refl, (refl, (refl, (refl, (refl, tt)))))
+    ∙ no_defaults (drop 6 (rules_in (usage_of Check))) (defaulted (usage_of Check).plain rows)
+    (refl, (refl, (refl, tt)))
+finished Run rows = no_defaults (rules_in (usage_of Run)) rows (refl, (refl, (refl, (refl, tt))))
+finished Rank rows = no_defaults (rules_in (usage_of Rank)) rows
+    (refl, (refl, (refl, (refl, (refl, (refl, (refl, (refl, tt))))))))
+finished Repair rows = no_defaults (rules_in (usage_of Repair)) rows
+    (refl, (refl, (refl, (refl, (refl, (refl, (refl, (refl, (refl, tt)))))))))
+finished Sample rows = no_defaults (rules_in (usage_of Sample)) rows (refl, tt)
+
+-- defaults of switches hide no argument of another name
+find-defaulted : (name : Word) (names : List Word) (rows : List Row) → list_all (differs name) names ≡ true
+    → find (λ (r : Row). bytes_eq r.id name) (defaulted names rows)
+    ≡ find (λ (r : Row). bytes_eq r.id name) rows
+find-defaulted name [] rows others = refl
+find-defaulted name (n ∷ names) rows others =
+    let each = both (differs name n) (list_all (differs name) names) others in
+    find-defaulted name names (with_default rows (switch_rule n)) each.1
+    ∙ find-finished name n rows (not-true (bytes_eq n name) each.0)
+
+has_row-defaulted : (name : Word) (names : List Word) (rows : List Row)
+    → list_all (differs name) names ≡ true → has_row name (defaulted names rows) ≡ has_row name rows
+has_row-defaulted name [] rows others = refl
+has_row-defaulted name (n ∷ names) rows others =
+    let each = both (differs name n) (list_all (differs name) names) others in
+    has_row-defaulted name names (with_default rows (switch_rule n)) each.1
+    ∙ has_row-finished name n rows (not-true (bytes_eq n name) each.0)
+
+-- the text of a switch at the end, among others: that of its use, or `false`
+switch_text-among : (name : Word) (before behind : List Word) (rows : List Row)
+    → list_all (differs name) before ≡ true → list_all (differs name) behind ≡ true
+    → one_of name (defaulted behind (with_default (defaulted before rows) (switch_rule name)))
+    ≡ cond (has_row name rows) (one_of name rows) (Some (codes "false"))
+switch_text-among name before behind rows first later =
+    ap (option_and_then row_text) (find-defaulted name behind
+    (with_default (defaulted before rows) (switch_rule name)) later)
+    ∙ switch_text name (defaulted before rows) (has_row name rows) (has_row-defaulted name before rows first)
+    ∙ ap (λ o. cond (has_row name rows) (option_and_then row_text o) (Some (codes "false")))
+    (find-defaulted name before rows first)
 
 finished-first : (mode : Mode) (name : Word) (rows : List Row)
     → list_all (differs name) (usage_of mode).plain ≡ true
     → first_value_of name (fold with_default rows (rules_in (usage_of mode))) ≡ first_value_of name rows
-finished-first Localise name rows plain =
-    let each = both (differs name (codes "runs")) (differs name (codes "places") && true) plain in
-    let places = both (differs name (codes "places")) true each.1 in
-    ap (first_value_of name) (localise-finished rows)
+finished-first mode name rows plain = ap (first_value_of name) (finished mode rows)
     ∙ ap (option_and_then (λ (r : Row). slice_get r.values 0))
-    (find-finished name (codes "places") (with_default rows (switch_rule (codes "runs")))
-    (not-true (bytes_eq (codes "places") name) places.0)
-    ∙ find-finished name (codes "runs") rows (not-true (bytes_eq (codes "runs") name) each.0))
-finished-first Check name rows plain = ap (first_value_of name)
-    (no_defaults (rules_in (usage_of Check)) rows
-    (refl, (refl, (refl, (refl, (refl, (refl, (refl, (refl, tt)))))))))
-finished-first Run name rows plain =
-    ap (first_value_of name) (no_defaults (rules_in (usage_of Run)) rows (refl, (refl, (refl, (refl, tt)))))
-finished-first Rank name rows plain = ap (first_value_of name)
-    (no_defaults (rules_in (usage_of Rank)) rows
-    (refl, (refl, (refl, (refl, (refl, (refl, (refl, (refl, tt)))))))))
-finished-first Sample name rows plain =
-    ap (first_value_of name) (no_defaults (rules_in (usage_of Sample)) rows (refl, tt))
+    (find-defaulted name (usage_of mode).plain rows plain)
 
 -- what was found, where the words have these parts
 record IsFound (mode : Mode) (parts : List Part) (found : Found) : Type 0 where
@@ -113,7 +140,7 @@ file-found : (mode : Mode) (parts : List Part) (found : Found) (name : Word) →
 file-found mode parts found name f valued plain = sym (found-first mode parts found name f plain
     ∙ first-file (usage_of mode) name parts (usage_of mode).files f.known valued plain)
 
--- THE SWITCHES `--runs` and `--places`
+-- THE SWITCHES
 
 has_row-uses : (name : Word) (uses : List Use)
     → has_row name (rows_of_uses uses) ≡ stands name (names_of_uses uses)
@@ -141,74 +168,80 @@ pub record IsRead (found : Found) (name : Word) (given : Bool) : Type 0 where
   pub off : one_text found name ≡ Some (codes "false") → given ≡ false
 
 -- how the switches were read
-pub record AreRead (found : Found) (runs places : Bool) : Type 0 where
+pub record AreRead (found : Found) (runs places all : Bool) : Type 0 where
   pub runs_read : IsRead found (codes "runs") runs
   pub places_read : IsRead found (codes "places") places
+  pub all_read : IsRead found (codes "all") all
 
-abbrev localise_rows : List Part → List Row
-localise_rows parts = rows_of_uses (uses_of parts (usage_of Localise).files)
+abbrev rows_in : Mode → List Part → List Row
+rows_in mode parts = rows_of_uses (uses_of parts (usage_of mode).files)
 
 -- what is found of a switch: the text of its use, or `false`
-abbrev HasText : List Part → Found → Word → Type 0
-HasText parts found name = one_text found name
-    ≡ cond (has_row name (localise_rows parts)) (one_of name (localise_rows parts)) (Some (codes "false"))
+abbrev HasText : Mode → List Part → Found → Word → Type 0
+HasText mode parts found name = one_text found name
+    ≡ cond (has_row name (rows_in mode parts)) (one_of name (rows_in mode parts)) (Some (codes "false"))
 
-text-found : (parts : List Part) (found : Found) (name : Word) → IsFound Localise parts found
-    → one_text found name ≡ one_of name (with_switches (localise_rows parts))
-text-found parts found name f =
-    one_text-rows found name ∙ ap (one_of name) (f.rows ∙ localise-finished (localise_rows parts))
+text-found : (mode : Mode) (parts : List Part) (found : Found) (name : Word) → IsFound mode parts found
+    → one_text found name ≡ one_of name (defaulted (usage_of mode).plain (rows_in mode parts))
+text-found mode parts found name f =
+    one_text-rows found name ∙ ap (one_of name) (f.rows ∙ finished mode (rows_in mode parts))
 
 runs_text : (parts : List Part) (found : Found) → IsFound Localise parts found
-    → HasText parts found (codes "runs")
-runs_text parts found f =
-    let rows = localise_rows parts in
-    text-found parts found (codes "runs") f
-    ∙ ap (option_and_then row_text) (find-finished (codes "runs") (codes "places")
-    (with_default rows (switch_rule (codes "runs"))) refl)
-    ∙ switch_text (codes "runs") rows (has_row (codes "runs") rows) refl
+    → HasText Localise parts found (codes "runs")
+runs_text parts found f = text-found Localise parts found (codes "runs") f
+    ∙ switch_text-among (codes "runs") [] (codes "places" ∷ codes "all" ∷ []) (rows_in Localise parts) refl
+    refl
 
 places_text : (parts : List Part) (found : Found) → IsFound Localise parts found
-    → HasText parts found (codes "places")
-places_text parts found f =
-    let rows = localise_rows parts in
-    text-found parts found (codes "places") f
-    ∙ switch_text (codes "places") (with_default rows (switch_rule (codes "runs")))
-    (has_row (codes "places") rows) (has_row-finished (codes "places") (codes "runs") rows refl)
-    ∙ ap (λ o. cond (has_row (codes "places") rows) (option_and_then row_text o) (Some (codes "false")))
-    (find-finished (codes "places") (codes "runs") rows refl)
+    → HasText Localise parts found (codes "places")
+places_text parts found f = text-found Localise parts found (codes "places") f
+    ∙ switch_text-among (codes "places") (codes "runs" ∷ []) (codes "all" ∷ []) (rows_in Localise parts) refl
+    refl
 
-switch-found : (parts : List Part) (found : Found) (name : Word) (given : Bool) → IsFound Localise parts found
-    → list_all (differs name) (usage_of Localise).valued ≡ true
-    → list_all (differs name) (usage_of Localise).files ≡ true
-    → stands name (usage_of Localise).files ≡ false
-    → HasText parts found name → IsRead found name given
+all_text : (parts : List Part) (found : Found) → IsFound Localise parts found
+    → HasText Localise parts found (codes "all")
+all_text parts found f = text-found Localise parts found (codes "all") f
+    ∙ switch_text-among (codes "all") (codes "runs" ∷ codes "places" ∷ []) [] (rows_in Localise parts) refl
+    refl
+
+all_text_of_check : (parts : List Part) (found : Found) → IsFound Check parts found
+    → HasText Check parts found (codes "all")
+all_text_of_check parts found f = text-found Check parts found (codes "all") f
+    ∙ switch_text-among (codes "all") [] [] (rows_in Check parts) refl refl
+
+switch-found : (mode : Mode) (parts : List Part) (found : Found) (name : Word) (given : Bool)
+    → IsFound mode parts found
+    → list_all (differs name) (usage_of mode).valued ≡ true
+    → list_all (differs name) (usage_of mode).files ≡ true
+    → stands name (usage_of mode).files ≡ false
+    → HasText mode parts found name → IsRead found name given
     → stands name (options_in parts) ≡ given
-switch-found parts found name given f valued files no_file text read =
+switch-found mode parts found name given f valued files no_file text read =
     by (stands name (options_in parts)) refl
   where
     places : List Word
-    places = (usage_of Localise).files
+    places = (usage_of mode).files
 
-    there : has_row name (localise_rows parts) ≡ stands name (options_in parts)
+    there : has_row name (rows_in mode parts) ≡ stands name (options_in parts)
     there = has_row-uses name (uses_of parts places) ∙ uses-stand name parts places no_file
 
     said : (b : Bool) → stands name (options_in parts) ≡ b
-        → one_text found name ≡ cond b (one_of name (localise_rows parts)) (Some (codes "false"))
+        → one_text found name ≡ cond b (one_of name (rows_in mode parts)) (Some (codes "false"))
     said b s = text
-        ∙ ap (λ b. cond b (one_of name (localise_rows parts)) (Some (codes "false"))) (there ∙ s)
+        ∙ ap (λ b. cond b (one_of name (rows_in mode parts)) (Some (codes "false"))) (there ∙ s)
 
     by : (b : Bool) → stands name (options_in parts) ≡ b → b ≡ given
     by true s = sym (read.on (said true s ∙ one_of-uses name (uses_of parts places)
-        ∙ first-switch (usage_of Localise) name parts places f.known valued files
+        ∙ first-switch (usage_of mode) name parts places f.known valued files
         ∙ ap (λ b. cond b (Some (codes "true")) None) s))
     by false s = sym (read.off (said false s))
 
 -- THE COMMAND of the parts is that of what was found
 
-same_command : (mode : Mode) (parts : List Part) (found : Found) (runs places : Bool)
-    → IsFound mode parts found → AreRead found runs places
-    → command_of_parts mode parts ≡ command_with mode (first_value found) (first_value found) runs places
-same_command Localise parts found runs places f read =
+same_command : (mode : Mode) (parts : List Part) (found : Found) (runs places all : Bool)
+    → IsFound mode parts found → AreRead found runs places all
+    → command_of_parts mode parts ≡ command_with mode (first_value found) (first_value found) runs places all
+same_command Localise parts found runs places all f read =
     let value = value-found Localise parts found in
     let place = file-found Localise parts found in
     let program = place (codes "PROGRAM") f refl refl in
@@ -220,13 +253,15 @@ same_command Localise parts found runs places f read =
     let sets = value (codes "sets") f refl refl in
     let cert = value (codes "cert") f refl refl in
     let restart = value (codes "restart") f refl refl in
-    let on = switch-found parts found (codes "runs") runs f refl refl refl (runs_text parts found f)
+    let on = switch-found Localise parts found (codes "runs") runs f refl refl refl (runs_text parts found f)
     read.runs_read in
-    let single = switch-found parts found (codes "places") places f refl refl refl (places_text parts found f)
-    read.places_read in
+    let single = switch-found Localise parts found (codes "places") places f refl refl refl
+    (places_text parts found f) read.places_read in
+    let every = switch-found Localise parts found (codes "all") all f refl refl refl (all_text parts found f)
+    read.all_read in
     λ i. localise_from (program i) (input i) (bounds_from (bound i) (depth i)) (weights i) (conflicts i)
-    (sets i) (cert i) (on i) (single i) (restart i)
-same_command Check parts found runs places f read =
+    (sets i) (cert i) (on i) (single i) (every i) (restart i)
+same_command Check parts found runs places all f read =
     let value = value-found Check parts found in
     let place = file-found Check parts found in
     let program = place (codes "PROGRAM") f refl refl in
@@ -237,9 +272,11 @@ same_command Check parts found runs places f read =
     let weights = value (codes "weights") f refl refl in
     let conflicts = value (codes "conflicts") f refl refl in
     let sets = value (codes "sets") f refl refl in
+    let every = switch-found Check parts found (codes "all") all f refl refl refl
+    (all_text_of_check parts found f) read.all_read in
     λ i. check_from (program i) (input i) (cert i) (bounds_from (bound i) (depth i)) (weights i) (conflicts i)
-    (sets i)
-same_command Run parts found runs places f read =
+    (sets i) (every i)
+same_command Run parts found runs places all f read =
     let value = value-found Run parts found in
     let place = file-found Run parts found in
     let program = place (codes "PROGRAM") f refl refl in
@@ -247,7 +284,7 @@ same_command Run parts found runs places f read =
     let bound = value (codes "bound") f refl refl in
     let depth = value (codes "depth") f refl refl in
     λ i. run_from (program i) (input i) (bounds_from (bound i) (depth i))
-same_command Rank parts found runs places f read =
+same_command Rank parts found runs places all f read =
     let value = value-found Rank parts found in
     let place = file-found Rank parts found in
     let program = place (codes "PROGRAM") f refl refl in
@@ -260,23 +297,37 @@ same_command Rank parts found runs places f read =
     let restart = value (codes "restart") f refl refl in
     λ i. rank_from (program i) (inputs i) (bounds_from (bound i) (depth i)) (weights i) (conflicts i)
     (sets i) (restart i)
-same_command Sample parts found runs places f read =
+same_command Repair parts found runs places all f read =
+    let value = value-found Repair parts found in
+    let place = file-found Repair parts found in
+    let program = place (codes "PROGRAM") f refl refl in
+    let failing = place (codes "FAILING") f refl refl in
+    let passing = place (codes "PASSING") f refl refl in
+    let bound = value (codes "bound") f refl refl in
+    let depth = value (codes "depth") f refl refl in
+    let weights = value (codes "weights") f refl refl in
+    let conflicts = value (codes "conflicts") f refl refl in
+    let sets = value (codes "sets") f refl refl in
+    let restart = value (codes "restart") f refl refl in
+    λ i. repair_from (program i) (failing i) (passing i) (bounds_from (bound i) (depth i)) (weights i)
+    (conflicts i) (sets i) (restart i)
+same_command Sample parts found runs places all f read =
     let additions = file-found Sample parts found (codes "N") f refl refl in
     λ i. sample_from (number_of 1 500 (additions i))
 
 -- A LINE THAT LACKS a file name, or `--bound`, is no command
 
-localise-unbounded : (a b c d e f g : Option Word) (runs places : Bool)
-    → localise_from a b None c d e f runs places g ≡ None
-localise-unbounded None b c d e f g runs places = refl
-localise-unbounded (Some a) None c d e f g runs places = refl
-localise-unbounded (Some a) (Some b) c d e f g runs places = refl
+localise-unbounded : (a b c d e f g : Option Word) (runs places all : Bool)
+    → localise_from a b None c d e f runs places all g ≡ None
+localise-unbounded None b c d e f g runs places all = refl
+localise-unbounded (Some a) None c d e f g runs places all = refl
+localise-unbounded (Some a) (Some b) c d e f g runs places all = refl
 
-check-unbounded : (a b c d e f : Option Word) → check_from a b c None d e f ≡ None
-check-unbounded None b c d e f = refl
-check-unbounded (Some a) None c d e f = refl
-check-unbounded (Some a) (Some b) None d e f = refl
-check-unbounded (Some a) (Some b) (Some c) d e f = refl
+check-unbounded : (a b c d e f : Option Word) (all : Bool) → check_from a b c None d e f all ≡ None
+check-unbounded None b c d e f all = refl
+check-unbounded (Some a) None c d e f all = refl
+check-unbounded (Some a) (Some b) None d e f all = refl
+check-unbounded (Some a) (Some b) (Some c) d e f all = refl
 
 run-unbounded : (a b : Option Word) → run_from a b None ≡ None
 run-unbounded None b = refl
@@ -288,72 +339,92 @@ rank-unbounded None b c d e f = refl
 rank-unbounded (Some a) None c d e f = refl
 rank-unbounded (Some a) (Some b) c d e f = refl
 
-unbounded : (mode : Mode) (place value : Word → Option Word) (runs places : Bool)
+repair-unbounded : (a b c d e f g : Option Word) → repair_from a b c None d e f g ≡ None
+repair-unbounded None b c d e f g = refl
+repair-unbounded (Some a) None c d e f g = refl
+repair-unbounded (Some a) (Some b) None d e f g = refl
+repair-unbounded (Some a) (Some b) (Some c) d e f g = refl
+
+unbounded : (mode : Mode) (place value : Word → Option Word) (runs places all : Bool)
     → stands (codes "bound") (usage_of mode).valued ≡ true
-    → value (codes "bound") ≡ None → command_with mode place value runs places ≡ None
-unbounded Localise place value runs places has none =
+    → value (codes "bound") ≡ None → command_with mode place value runs places all ≡ None
+unbounded Localise place value runs places all has none =
     ap (λ b. localise_from (place (codes "PROGRAM")) (place (codes "INPUT"))
     (bounds_from b (value (codes "depth"))) (value (codes "weights"))
-    (value (codes "conflicts")) (value (codes "sets")) (value (codes "cert")) runs places
+    (value (codes "conflicts")) (value (codes "sets")) (value (codes "cert")) runs places all
     (value (codes "restart"))) none
     ∙ localise-unbounded (place (codes "PROGRAM")) (place (codes "INPUT")) (value (codes "weights"))
     (value (codes "conflicts"))
-    (value (codes "sets")) (value (codes "cert")) (value (codes "restart")) runs places
-unbounded Check place value runs places has none =
+    (value (codes "sets")) (value (codes "cert")) (value (codes "restart")) runs places all
+unbounded Check place value runs places all has none =
     ap (λ b. check_from (place (codes "PROGRAM")) (place (codes "INPUT")) (place (codes "CERT"))
     (bounds_from b (value (codes "depth")))
-    (value (codes "weights")) (value (codes "conflicts")) (value (codes "sets"))) none
+    (value (codes "weights")) (value (codes "conflicts")) (value (codes "sets")) all) none
     ∙ check-unbounded (place (codes "PROGRAM")) (place (codes "INPUT")) (place (codes "CERT"))
     (value (codes "weights"))
-    (value (codes "conflicts")) (value (codes "sets"))
-unbounded Run place value runs places has none =
+    (value (codes "conflicts")) (value (codes "sets")) all
+unbounded Run place value runs places all has none =
     ap (λ b. run_from (place (codes "PROGRAM")) (place (codes "INPUT"))
     (bounds_from b (value (codes "depth")))) none
     ∙ run-unbounded (place (codes "PROGRAM")) (place (codes "INPUT"))
-unbounded Rank place value runs places has none =
+unbounded Rank place value runs places all has none =
     ap (λ b. rank_from (place (codes "PROGRAM")) (place (codes "INPUTS"))
     (bounds_from b (value (codes "depth"))) (value (codes "weights"))
     (value (codes "conflicts")) (value (codes "sets")) (value (codes "restart"))) none
     ∙ rank-unbounded (place (codes "PROGRAM")) (place (codes "INPUTS")) (value (codes "weights"))
     (value (codes "conflicts")) (value (codes "sets")) (value (codes "restart"))
-unbounded Sample place value runs places has none = absurd (true≢false (sym has))
+unbounded Repair place value runs places all has none =
+    ap (λ b. repair_from (place (codes "PROGRAM")) (place (codes "FAILING")) (place (codes "PASSING"))
+    (bounds_from b (value (codes "depth"))) (value (codes "weights"))
+    (value (codes "conflicts")) (value (codes "sets")) (value (codes "restart"))) none
+    ∙ repair-unbounded (place (codes "PROGRAM")) (place (codes "FAILING")) (place (codes "PASSING"))
+    (value (codes "weights")) (value (codes "conflicts")) (value (codes "sets")) (value (codes "restart"))
+unbounded Sample place value runs places all has none = absurd (true≢false (sym has))
 
-too_few : (mode : Mode) (files : List Word) (value : Word → Option Word) (runs places : Bool)
+too_few : (mode : Mode) (files : List Word) (value : Word → Option Word) (runs places all : Bool)
     → nat_le (length files) (length (usage_of mode).files) ≡ true
     → (length files == length (usage_of mode).files) ≡ false
-    → command_with mode (file_at (usage_of mode).files files) value runs places ≡ None
-too_few Localise [] value runs places few lacks = refl
-too_few Localise (a ∷ []) value runs places few lacks = refl
-too_few Localise (a ∷ b ∷ []) value runs places few lacks = absurd (true≢false lacks)
-too_few Localise (a ∷ b ∷ c ∷ files) value runs places few lacks = absurd (three (length files) few)
+    → command_with mode (file_at (usage_of mode).files files) value runs places all ≡ None
+too_few Localise [] value runs places all few lacks = refl
+too_few Localise (a ∷ []) value runs places all few lacks = refl
+too_few Localise (a ∷ b ∷ []) value runs places all few lacks = absurd (true≢false lacks)
+too_few Localise (a ∷ b ∷ c ∷ files) value runs places all few lacks = absurd (three (length files) few)
   where
     three : (n : ℕ) → nat_le (suc (suc (suc n))) 2 ≡ true → ⊥
     three n e = grind (arith, nat_tests)
-too_few Run [] value runs places few lacks = refl
-too_few Run (a ∷ []) value runs places few lacks = refl
-too_few Run (a ∷ b ∷ []) value runs places few lacks = absurd (true≢false lacks)
-too_few Run (a ∷ b ∷ c ∷ files) value runs places few lacks = absurd (three (length files) few)
+too_few Run [] value runs places all few lacks = refl
+too_few Run (a ∷ []) value runs places all few lacks = refl
+too_few Run (a ∷ b ∷ []) value runs places all few lacks = absurd (true≢false lacks)
+too_few Run (a ∷ b ∷ c ∷ files) value runs places all few lacks = absurd (three (length files) few)
   where
     three : (n : ℕ) → nat_le (suc (suc (suc n))) 2 ≡ true → ⊥
     three n e = grind (arith, nat_tests)
-too_few Check [] value runs places few lacks = refl
-too_few Check (a ∷ []) value runs places few lacks = refl
-too_few Check (a ∷ b ∷ []) value runs places few lacks = refl
-too_few Check (a ∷ b ∷ c ∷ []) value runs places few lacks = absurd (true≢false lacks)
-too_few Check (a ∷ b ∷ c ∷ d ∷ files) value runs places few lacks = absurd (four (length files) few)
+too_few Check [] value runs places all few lacks = refl
+too_few Check (a ∷ []) value runs places all few lacks = refl
+too_few Check (a ∷ b ∷ []) value runs places all few lacks = refl
+too_few Check (a ∷ b ∷ c ∷ []) value runs places all few lacks = absurd (true≢false lacks)
+too_few Check (a ∷ b ∷ c ∷ d ∷ files) value runs places all few lacks = absurd (four (length files) few)
   where
     four : (n : ℕ) → nat_le (suc (suc (suc (suc n)))) 3 ≡ true → ⊥
     four n e = grind (arith, nat_tests)
-too_few Rank [] value runs places few lacks = refl
-too_few Rank (a ∷ []) value runs places few lacks = refl
-too_few Rank (a ∷ b ∷ []) value runs places few lacks = absurd (true≢false lacks)
-too_few Rank (a ∷ b ∷ c ∷ files) value runs places few lacks = absurd (three (length files) few)
+too_few Rank [] value runs places all few lacks = refl
+too_few Rank (a ∷ []) value runs places all few lacks = refl
+too_few Rank (a ∷ b ∷ []) value runs places all few lacks = absurd (true≢false lacks)
+too_few Rank (a ∷ b ∷ c ∷ files) value runs places all few lacks = absurd (three (length files) few)
   where
     three : (n : ℕ) → nat_le (suc (suc (suc n))) 2 ≡ true → ⊥
     three n e = grind (arith, nat_tests)
-too_few Sample [] value runs places few lacks = refl
-too_few Sample (a ∷ []) value runs places few lacks = absurd (true≢false lacks)
-too_few Sample (a ∷ b ∷ files) value runs places few lacks = absurd (two (length files) few)
+too_few Repair [] value runs places all few lacks = refl
+too_few Repair (a ∷ []) value runs places all few lacks = refl
+too_few Repair (a ∷ b ∷ []) value runs places all few lacks = refl
+too_few Repair (a ∷ b ∷ c ∷ []) value runs places all few lacks = absurd (true≢false lacks)
+too_few Repair (a ∷ b ∷ c ∷ d ∷ files) value runs places all few lacks = absurd (four (length files) few)
+  where
+    four : (n : ℕ) → nat_le (suc (suc (suc (suc n)))) 3 ≡ true → ⊥
+    four n e = grind (arith, nat_tests)
+too_few Sample [] value runs places all few lacks = refl
+too_few Sample (a ∷ []) value runs places all few lacks = absurd (true≢false lacks)
+too_few Sample (a ∷ b ∷ files) value runs places all few lacks = absurd (two (length files) few)
   where
     two : (n : ℕ) → nat_le (suc (suc n)) 1 ≡ true → ⊥
     two n e = grind (arith, nat_tests)
@@ -375,11 +446,13 @@ on_parts mode parts fit distinct =
         → cond (a && (are_distinct (options_in parts) && (not b || c))) whole None ≡ whole
     by false b c count has there =
         sym (too_few mode (files_in parts) (value_in parts) (stands (codes "runs") (options_in parts))
-        (stands (codes "places") (options_in parts)) (sym (fits-length parts (usage_of mode).files) ∙ fit)
+        (stands (codes "places") (options_in parts)) (stands (codes "all") (options_in parts))
+        (sym (fits-length parts (usage_of mode).files) ∙ fit)
         count)
     by true true false count has there = ap (λ d. cond (d && false) whole None) distinct
         ∙ sym (unbounded mode (file_at (usage_of mode).files (files_in parts)) (value_in parts)
-        (stands (codes "runs") (options_in parts)) (stands (codes "places") (options_in parts)) has
+        (stands (codes "runs") (options_in parts)) (stands (codes "places") (options_in parts))
+        (stands (codes "all") (options_in parts)) has
         (value-none parts (codes "bound") there))
     by true true true count has there = ap (λ d. cond (d && true) whole None) distinct
     by true false c count has there = ap (λ d. cond (d && true) whole None) distinct
@@ -391,6 +464,7 @@ places_distinct Localise = refl
 places_distinct Check = refl
 places_distinct Run = refl
 places_distinct Rank = refl
+places_distinct Repair = refl
 places_distinct Sample = refl
 
 valued_apart : (mode : Mode)
@@ -399,6 +473,7 @@ valued_apart Localise = refl
 valued_apart Check = refl
 valued_apart Run = refl
 valued_apart Rank = refl
+valued_apart Repair = refl
 valued_apart Sample = refl
 
 plain_apart : (mode : Mode)
@@ -407,6 +482,7 @@ plain_apart Localise = refl
 plain_apart Check = refl
 plain_apart Run = refl
 plain_apart Rank = refl
+plain_apart Repair = refl
 plain_apart Sample = refl
 
 same_distinct : (mode : Mode) (parts : List Part) → list_all (is_known (usage_of mode)) parts ≡ true
@@ -430,13 +506,13 @@ accepted-in : (mode : Mode) (words : List Word) → list_all (is_accepted (usage
 accepted-in mode words ok =
     ap (λ b. cond b (option_and_then (command_on mode) (parts_of (usage_of mode) words)) None) ok
 
-pub answered : (mode : Mode) (first : Word) (words : List Word) (found : Found) (runs places : Bool)
+pub answered : (mode : Mode) (first : Word) (words : List Word) (found : Found) (runs places all : Bool)
     → list_all (is_readable (usage_of mode)) words ≡ true
     → fault_of (app_for (usage_of mode)) (first ∷ words) ≡ []
-    → rows_of found ≡ matches_of (app_for (usage_of mode)) (first ∷ words) → AreRead found runs places
+    → rows_of found ≡ matches_of (app_for (usage_of mode)) (first ∷ words) → AreRead found runs places all
     → command_in mode (split_words (usage_of mode) words)
-    ≡ command_with mode (first_value found) (first_value found) runs places
-answered mode first words found runs places ok none is read =
+    ≡ command_with mode (first_value found) (first_value found) runs places all
+answered mode first words found runs places all ok none is read =
     accepted-in mode (split_words u words) (readable_accepted u words ok)
     ∙ by (parts_of u (split_words u words)) refl walked
   where
@@ -458,9 +534,9 @@ answered mode first words found runs places ok none is read =
     chosen : (parts : List Part) (f d : Bool) → fits parts u.files ≡ f → are_distinct (options_in parts) ≡ d
         → list_all (is_known u) parts ≡ true
         → Agrees kinds rows (cond (f && d) (Some (rows_of_uses (uses_of parts u.files))) None)
-        → command_on mode parts ≡ command_with mode (first_value found) (first_value found) runs places
+        → command_on mode parts ≡ command_with mode (first_value found) (first_value found) runs places all
     chosen parts true true f d known agrees = on_parts mode parts f d
-        ∙ same_command mode parts found runs places (record {
+        ∙ same_command mode parts found runs places all (record {
           known = known;
           rows = is ∙ ap (λ r. fold with_default r (rules_in u)) agrees.1;
         }) read
@@ -470,7 +546,7 @@ answered mode first words found runs places ok none is read =
     by : (o : Option (List Part)) → parts_of u (split_words u words) ≡ o
         → Agrees kinds rows (taken_all u.files o [])
         → option_and_then (command_on mode) o ≡ command_with mode (first_value found) (first_value found) runs
-        places
+        places all
     by None are agrees = absurd (agrees no_fault)
     by (Some parts) are agrees =
         let known = parts-known u (split_words u words) parts are in

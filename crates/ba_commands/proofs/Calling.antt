@@ -62,17 +62,19 @@ refused_command (word ∷ words) d mode Bad some is read parsed =
     (list_all-map (is_readable (usage_of mode)) (λ (word : Bor Word). word.now) words ∙ read) parsed
 
 -- it has read them
-pub found_command : (words : Lent) (d : Bor Word) (mode : Mode) (matches : ArgMatches) (runs places : Bool)
+pub found_command : (words : Lent) (d : Bor Word) (mode : Mode) (matches : ArgMatches)
+    (runs places all : Bool)
     → 1 ≤ length words
     → Some mode ≡ mode_of (get_or words 0 d).now
     → list_all (λ (word : Bor Word). is_readable (usage_of mode) word.now) (drop 1 words) ≡ true
-    → IsParsedBy (app_for (usage_of mode)) (bytes words) (Ok matches) → AreRead (found_of matches) runs places
+    → IsParsedBy (app_for (usage_of mode)) (bytes words) (Ok matches)
+    → AreRead (found_of matches) runs places all
     → command_of (bytes words)
-    ≡ command_with mode (first_value (found_of matches)) (first_value (found_of matches)) runs places
-found_command [] d mode matches runs places some is read parsed flags = absurd (omega arith)
-found_command (word ∷ words) d mode matches runs places some is read parsed flags =
+    ≡ command_with mode (first_value (found_of matches)) (first_value (found_of matches)) runs places all
+found_command [] d mode matches runs places all some is read parsed flags = absurd (omega arith)
+found_command (word ∷ words) d mode matches runs places all some is read parsed flags =
     first_command (word ∷ words) d some (Some mode) (sym is)
-    ∙ answered mode word.now (bytes words) (found_of matches) runs places
+    ∙ answered mode word.now (bytes words) (found_of matches) runs places all
     (list_all-map (is_readable (usage_of mode)) (λ (word : Bor Word). word.now) words ∙ read) parsed.0
     parsed.1 flags
 

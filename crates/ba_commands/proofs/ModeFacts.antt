@@ -9,7 +9,7 @@ use Rattle.ba_commands.specs.Modes.{Usage, Word, usage_of}
 use Rattle.ba_commands.specs.Words.{option_word}
 use Rattle.ba_commands.specs.Parsing.{app_for, rule_for}
 use Rattle.ba_commands.specs.declared.modes.Mode.{Mode}
-use Rattle.ba_commands.specs.declared.modes.Mode.TheVariants.{Localise, Check, Run, Rank, Sample}
+use Rattle.ba_commands.specs.declared.modes.Mode.TheVariants.{Localise, Check, Run, Rank, Repair, Sample}
 use Rattle.ba_commands.specs.declared.parsing.Role.TheVariants.{Valued, Plain, File}
 use Rattle.ba_commands.proofs.Finishing.{defaults_pass}
 use Rattle.ba_commands.proofs.Turns.{ReadsOption, ReadsSwitch}
@@ -25,6 +25,7 @@ simple Localise = refl
 simple Check = refl
 simple Run = refl
 simple Rank = refl
+simple Repair = refl
 simple Sample = refl
 
 option_facts : {rules : List Rule} {name : Word} → bytes_eq (option_word name) (option_word []) ≡ false
@@ -67,10 +68,10 @@ fits_mode Localise = record {
       ),
     ),
   );
-  plain = (switch_facts refl refl refl, (switch_facts refl refl refl, tt));
+  plain = (switch_facts refl refl refl, (switch_facts refl refl refl, (switch_facts refl refl refl, tt)));
   places = (refl, refl, refl, (refl, refl, refl, refl));
   no_default = defaults_pass (rules_in (usage_of Localise))
-      (refl, (refl, (refl, (refl, (refl, (refl, (refl, (refl, (refl, (refl, (refl, tt)))))))))));
+      (refl, (refl, (refl, (refl, (refl, (refl, (refl, (refl, (refl, (refl, (refl, (refl, tt))))))))))));
   no_check = λ rows. refl;
 }
 fits_mode Check = record {
@@ -87,10 +88,10 @@ fits_mode Check = record {
       ),
     ),
   );
-  plain = tt;
+  plain = (switch_facts refl refl refl, tt);
   places = (refl, refl, refl, (refl, refl, refl, (refl, refl, refl, refl)));
   no_default = defaults_pass (rules_in (usage_of Check))
-      (refl, (refl, (refl, (refl, (refl, (refl, (refl, (refl, tt))))))));
+      (refl, (refl, (refl, (refl, (refl, (refl, (refl, (refl, (refl, tt)))))))));
   no_check = λ rows. refl;
 }
 fits_mode Run = record {
@@ -124,6 +125,29 @@ fits_mode Rank = record {
   places = (refl, refl, refl, (refl, refl, refl, refl));
   no_default = defaults_pass (rules_in (usage_of Rank))
       (refl, (refl, (refl, (refl, (refl, (refl, (refl, (refl, tt))))))));
+  no_check = λ rows. refl;
+}
+fits_mode Repair = record {
+  valued = (
+    option_facts refl refl (λ text. refl) (λ text. refl) refl refl,
+    (
+      option_facts refl refl (λ text. refl) (λ text. refl) refl refl,
+      (
+        option_facts refl refl (λ text. refl) (λ text. refl) refl refl,
+        (
+          option_facts refl refl (λ text. refl) (λ text. refl) refl refl,
+          (
+            option_facts refl refl (λ text. refl) (λ text. refl) refl refl,
+            (option_facts refl refl (λ text. refl) (λ text. refl) refl refl, tt),
+          ),
+        ),
+      ),
+    ),
+  );
+  plain = tt;
+  places = (refl, refl, refl, (refl, refl, refl, (refl, refl, refl, refl)));
+  no_default = defaults_pass (rules_in (usage_of Repair))
+      (refl, (refl, (refl, (refl, (refl, (refl, (refl, (refl, (refl, tt)))))))));
   no_check = λ rows. refl;
 }
 fits_mode Sample = record {

@@ -1,12 +1,12 @@
 -- THE COMMAND that words are: rule 6, on numbers, restart rules and `--places`, and the whole.
 
-use Rattle.std.specs.Prelude.{◌≡◌, ℕ, Bool, true, false, not, ◌&&◌, if◌then◌else◌, Option, None, Some, is_some, option_and_then, List, [], ◌∷◌, codes, bytes_eq, Result, Ok, Err}
+use Rattle.std.specs.Prelude.{◌≡◌, ℕ, Bool, true, false, not, ◌&&◌, ◌||◌, if◌then◌else◌, Option, None, Some, is_some, option_and_then, List, [], ◌∷◌, codes, bytes_eq, Result, Ok, Err}
 use Rattle.std.specs.List.{list_all}
 use Rattle.ba_tree.specs.declared.run.Bounds.{Bounds}
 use Rattle.ba_commands.specs.declared.commands.Command.{Command}
 use Rattle.ba_commands.specs.declared.commands.Command.TheVariants as command
 use Rattle.ba_commands.specs.declared.modes.Mode.{Mode}
-use Rattle.ba_commands.specs.declared.modes.Mode.TheVariants.{Localise, Check, Run, Rank, Sample}
+use Rattle.ba_commands.specs.declared.modes.Mode.TheVariants.{Localise, Check, Run, Rank, Repair, Sample}
 use Rattle.ba_commands.specs.declared.words.WordsError.{WordsError}
 use Rattle.ba_commands.specs.declared.words.WordsError.TheVariants.{Bad, Memory}
 use Rattle.ba_commands.specs.Modes.{Word, usage_of}
@@ -18,8 +18,9 @@ infixl 10 ◌>>=◌
 abbrev pub ◌>>=◌ : {A B : Type 0} → Option A → (A → Option B) → Option B
 o >>= f = option_and_then f o
 
--- RULE 6. A number is one to seven decimal digits with a value in its range. A restart rule is
--- `luby`, the default, or `steady`. `--cert` does not stand beside `--places`, for which no certificate is written.
+-- RULE 6. A number is one to seven decimal digits with a value in its range. A restart rule is `luby`, the
+-- default, or `steady`. `--cert` and `--all` do not stand beside `--places`: no certificate is written for
+-- it, and an execution belongs to one input.
 
 abbrev pub number_of : ℕ → ℕ → Option Word → Option ℕ
 number_of least most None = None
@@ -35,7 +36,8 @@ steady_in (Some word) =
     if bytes_eq word (codes "luby") then Some false
     else (if bytes_eq word (codes "steady") then Some true else None)
 
--- THE COMMAND of a mode, by its file names, its options' values, and whether `--runs` and `--places` stand there
+-- THE COMMAND of a mode, by its file names, its options' values, and whether `--runs`, `--places` and `--all`
+-- stand there
 
 abbrev pub bounds_from : Option Word → Option Word → Option Bounds
 bounds_from bound depth = do
@@ -43,33 +45,33 @@ bounds_from bound depth = do
   frames ← number_or 16 1 32 depth
   Some (record { turns = turns; frames = frames })
 
--- whether `--cert` may stand here
-abbrev pub may_be_certified : Bool → Option Word → Bool
-may_be_certified places cert = not (places && is_some cert)
+-- whether `--places`, if it stands, has neither `--all` nor `--cert` beside it
+abbrev pub places_stand_alone : Bool → Bool → Option Word → Bool
+places_stand_alone places all cert = not (places && (all || is_some cert))
 
 abbrev pub localise_from : Option Word → Option Word → Option Bounds → Option Word → Option Word
-    → Option Word → Option Word → Bool → Bool → Option Word → Option Command
-localise_from program input bounds weights conflicts sets cert runs places restart = do
+    → Option Word → Option Word → Bool → Bool → Bool → Option Word → Option Command
+localise_from program input bounds weights conflicts sets cert runs places all restart = do
   program ← program
   input ← input
   bounds ← bounds
   conflicts ← number_or 200000 1 1000000 conflicts
   sets ← number_or 1000 1 10000 sets
   steady ← steady_in restart
-  if may_be_certified places cert
-      then Some (command.Localise program input bounds weights conflicts sets cert runs places steady)
+  if places_stand_alone places all cert
+      then Some (command.Localise program input bounds weights conflicts sets cert runs places all steady)
       else None
 
 abbrev pub check_from : Option Word → Option Word → Option Word → Option Bounds → Option Word
-    → Option Word → Option Word → Option Command
-check_from program input cert bounds weights conflicts sets = do
+    → Option Word → Option Word → Bool → Option Command
+check_from program input cert bounds weights conflicts sets all = do
   program ← program
   input ← input
   cert ← cert
   bounds ← bounds
   conflicts ← number_or 200000 1 1000000 conflicts
   sets ← number_or 1000 1 10000 sets
-  Some (command.Check program input cert bounds weights conflicts sets)
+  Some (command.Check program input cert bounds weights conflicts sets all)
 
 abbrev pub run_from : Option Word → Option Word → Option Bounds → Option Command
 run_from program input bounds = do
@@ -89,6 +91,18 @@ rank_from program inputs bounds weights conflicts sets restart = do
   steady ← steady_in restart
   Some (command.Rank program inputs bounds weights conflicts sets steady)
 
+abbrev pub repair_from : Option Word → Option Word → Option Word → Option Bounds → Option Word → Option Word
+    → Option Word → Option Word → Option Command
+repair_from program failing passing bounds weights conflicts sets restart = do
+  program ← program
+  failing ← failing
+  passing ← passing
+  bounds ← bounds
+  conflicts ← number_or 200000 1 1000000 conflicts
+  sets ← number_or 1000 1 10000 sets
+  steady ← steady_in restart
+  Some (command.Repair program failing passing bounds weights conflicts sets steady)
+
 abbrev pub sample_from : Option ℕ → Option Command
 sample_from additions = do
   additions ← additions
@@ -98,17 +112,17 @@ sample_from additions = do
 abbrev pub bounds_with : (Word → Option Word) → Option Bounds
 bounds_with value = bounds_from (value (codes "bound")) (value (codes "depth"))
 
-abbrev pub localise_with : (Word → Option Word) → (Word → Option Word) → Bool → Bool → Option Command
-localise_with name value runs places =
+abbrev pub localise_with : (Word → Option Word) → (Word → Option Word) → Bool → Bool → Bool → Option Command
+localise_with name value runs places all =
     localise_from (name (codes "PROGRAM")) (name (codes "INPUT")) (bounds_with value)
     (value (codes "weights")) (value (codes "conflicts")) (value (codes "sets"))
-    (value (codes "cert")) runs places (value (codes "restart"))
+    (value (codes "cert")) runs places all (value (codes "restart"))
 
-abbrev pub check_with : (Word → Option Word) → (Word → Option Word) → Option Command
-check_with name value =
+abbrev pub check_with : (Word → Option Word) → (Word → Option Word) → Bool → Option Command
+check_with name value all =
     check_from (name (codes "PROGRAM")) (name (codes "INPUT")) (name (codes "CERT"))
     (bounds_with value)
-    (value (codes "weights")) (value (codes "conflicts")) (value (codes "sets"))
+    (value (codes "weights")) (value (codes "conflicts")) (value (codes "sets")) all
 
 abbrev pub run_with : (Word → Option Word) → (Word → Option Word) → Option Command
 run_with name value = run_from (name (codes "PROGRAM")) (name (codes "INPUT")) (bounds_with value)
@@ -119,15 +133,24 @@ rank_with name value =
     (value (codes "weights")) (value (codes "conflicts")) (value (codes "sets"))
     (value (codes "restart"))
 
+abbrev pub repair_with : (Word → Option Word) → (Word → Option Word) → Option Command
+repair_with name value =
+    repair_from (name (codes "PROGRAM")) (name (codes "FAILING")) (name (codes "PASSING"))
+    (bounds_with value)
+    (value (codes "weights")) (value (codes "conflicts")) (value (codes "sets"))
+    (value (codes "restart"))
+
 abbrev pub sample_with : (Word → Option Word) → Option Command
 sample_with name = sample_from (number_of 1 500 (name (codes "N")))
 
-abbrev pub command_with : Mode → (Word → Option Word) → (Word → Option Word) → Bool → Bool → Option Command
-command_with Localise name value runs places = localise_with name value runs places
-command_with Check name value runs places = check_with name value
-command_with Run name value runs places = run_with name value
-command_with Rank name value runs places = rank_with name value
-command_with Sample name value runs places = sample_with name
+abbrev pub command_with : Mode → (Word → Option Word) → (Word → Option Word) → Bool → Bool → Bool →
+    Option Command
+command_with Localise name value runs places all = localise_with name value runs places all
+command_with Check name value runs places all = check_with name value all
+command_with Run name value runs places all = run_with name value
+command_with Rank name value runs places all = rank_with name value
+command_with Repair name value runs places all = repair_with name value
+command_with Sample name value runs places all = sample_with name
 
 -- the file name in the place that has a name in the table
 abbrev pub file_at : List Word → List Word → Word → Option Word
@@ -148,6 +171,7 @@ abbrev pub command_of_parts : Mode → List Part → Option Command
 command_of_parts mode parts =
     command_with mode (file_at (usage_of mode).files (files_in parts)) (value_in parts)
     (stands (codes "runs") (options_in parts)) (stands (codes "places") (options_in parts))
+    (stands (codes "all") (options_in parts))
 
 -- the command that parts are, by rules 4 to 6
 abbrev pub command_on : Mode → List Part → Option Command

@@ -2,7 +2,7 @@
 
 use Rattle.std.specs.Prelude.{ℕ, List, [], ◌∷◌, codes}
 use Rattle.ba_commands.specs.declared.modes.Mode.{Mode}
-use Rattle.ba_commands.specs.declared.modes.Mode.TheVariants.{Localise, Check, Run, Rank, Sample}
+use Rattle.ba_commands.specs.declared.modes.Mode.TheVariants.{Localise, Check, Run, Rank, Repair, Sample}
 
 abbrev pub Word : Type 0
 Word = List ℕ
@@ -18,12 +18,12 @@ abbrev pub usage_of : Mode → Usage
 usage_of Localise = record {
   valued = codes "bound" ∷ codes "depth" ∷ codes "weights" ∷ codes "conflicts" ∷ codes "sets"
       ∷ codes "cert" ∷ codes "restart" ∷ [];
-  plain = codes "runs" ∷ codes "places" ∷ [];
+  plain = codes "runs" ∷ codes "places" ∷ codes "all" ∷ [];
   files = codes "PROGRAM" ∷ codes "INPUT" ∷ [];
 }
 usage_of Check = record {
   valued = codes "bound" ∷ codes "depth" ∷ codes "weights" ∷ codes "conflicts" ∷ codes "sets" ∷ [];
-  plain = [];
+  plain = codes "all" ∷ [];
   files = codes "PROGRAM" ∷ codes "INPUT" ∷ codes "CERT" ∷ [];
 }
 usage_of Run = record {
@@ -36,5 +36,11 @@ usage_of Rank = record {
       ∷ codes "restart" ∷ [];
   plain = [];
   files = codes "PROGRAM" ∷ codes "INPUTS" ∷ [];
+}
+usage_of Repair = record {
+  valued = codes "bound" ∷ codes "depth" ∷ codes "weights" ∷ codes "conflicts" ∷ codes "sets"
+      ∷ codes "restart" ∷ [];
+  plain = [];
+  files = codes "PROGRAM" ∷ codes "FAILING" ∷ codes "PASSING" ∷ [];
 }
 usage_of Sample = record { valued = []; plain = []; files = codes "N" ∷ [] }

@@ -3,7 +3,7 @@
 use Rattle.std.specs.Prelude.{Bool, true, false, not, ◌==◌, ◌&&◌, ◌||◌, if◌then◌else◌, Option, None, Some, option_map, option_and_then, List, [], ◌∷◌, length, drop, codes, bytes_eq}
 use Rattle.std.specs.List.{flat_map, list_any}
 use Rattle.ba_commands.specs.declared.modes.Mode.{Mode}
-use Rattle.ba_commands.specs.declared.modes.Mode.TheVariants.{Localise, Check, Run, Rank, Sample}
+use Rattle.ba_commands.specs.declared.modes.Mode.TheVariants.{Localise, Check, Run, Rank, Repair, Sample}
 use Rattle.ba_commands.specs.Modes.{Usage, Word}
 
 -- OPTION WORDS: `--` and then a name of the table
@@ -33,7 +33,8 @@ mode_of word =
     else (if bytes_eq word (codes "check") then Some Check
     else (if bytes_eq word (codes "run") then Some Run
     else (if bytes_eq word (codes "rank") then Some Rank
-    else (if bytes_eq word (codes "sample") then Some Sample else None))))
+    else (if bytes_eq word (codes "repair") then Some Repair
+    else (if bytes_eq word (codes "sample") then Some Sample else None)))))
 
 -- RULE 2. A later word that is an option with a value, then `=`, then any text, is replaced by the
 -- option and that text as two words.

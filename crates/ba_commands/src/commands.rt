@@ -40,11 +40,12 @@ impl<'a> Text<'a> {
 /// default.
 #[derive(Drop)]
 pub enum Command<'a> {
-    /// Find the least sets of statements, or of single executions, whose change could repair the run.
+    /// Find the least sets of statements, or of single executions, whose change could repair the run. If
+    /// there are several inputs, find those of statements whose change could repair all runs together.
     Localise {
         /// The file of the program.
         program: Text<'a>,
-        /// The file of the input.
+        /// The file of the input, or of the inputs, one a line.
         input: Text<'a>,
         /// How far a run may go.
         bounds: Bounds,
@@ -60,6 +61,9 @@ pub enum Command<'a> {
         runs: bool,
         /// Whether single executions are suspects, and not whole statements. Then no certificate is written.
         places: bool,
+        /// Whether there are several inputs, whose runs are repaired together. Then single executions are no
+        /// suspects.
+        all: bool,
         /// Whether the search restarts steadily, and not by Luby's sequence.
         steady: bool,
     },
@@ -67,7 +71,7 @@ pub enum Command<'a> {
     Check {
         /// The file of the program.
         program: Text<'a>,
-        /// The file of the input.
+        /// The file of the input, or of the inputs, one a line.
         input: Text<'a>,
         /// The file of the certificate.
         cert: Text<'a>,
@@ -79,6 +83,8 @@ pub enum Command<'a> {
         conflicts: u64,
         /// How many sets may be listed: 1 to 10,000, by default 1,000.
         sets: u32,
+        /// Whether there are several inputs, whose runs are repaired together.
+        all: bool,
     },
     /// Run the program.
     Run {
@@ -104,6 +110,25 @@ pub enum Command<'a> {
         /// How many sets each search may list: 1 to 10,000, by default 1,000.
         sets: u32,
         /// Whether the searches restart steadily, and not by Luby's sequence.
+        steady: bool,
+    },
+    /// Try small edits at the statements of the least sets.
+    Repair {
+        /// The file of the program.
+        program: Text<'a>,
+        /// The file of the input on which it fails.
+        failing: Text<'a>,
+        /// The file of the inputs on which it passes, one a line.
+        passing: Text<'a>,
+        /// How far a run may go.
+        bounds: Bounds,
+        /// The file of the weights, if there is one.
+        weights: Option<Text<'a>>,
+        /// How many conflicts the search may have: 1 to 1,000,000, by default 200,000.
+        conflicts: u64,
+        /// How many sets may be listed: 1 to 10,000, by default 1,000.
+        sets: u32,
+        /// Whether the search restarts steadily, and not by Luby's sequence.
         steady: bool,
     },
     /// Search a program made for the purpose.

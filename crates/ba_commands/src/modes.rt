@@ -15,6 +15,8 @@ pub enum Mode {
     Run,
     /// Rank the statements over several inputs.
     Rank,
+    /// Try small edits at the statements of the least sets.
+    Repair,
     /// Search a program made for the purpose.
     Sample,
 }
@@ -35,11 +37,15 @@ static RANK_VALUED: [&str; 6] = ["bound", "depth", "weights", "conflicts", "sets
 
 static RUN_VALUED: [&str; 2] = ["bound", "depth"];
 
-static LOCALISE_PLAIN: [&str; 2] = ["runs", "places"];
+static LOCALISE_PLAIN: [&str; 3] = ["runs", "places", "all"];
+
+static CHECK_PLAIN: [&str; 1] = ["all"];
 
 static RUN_FILES: [&str; 2] = ["PROGRAM", "INPUT"];
 
 static RANK_FILES: [&str; 2] = ["PROGRAM", "INPUTS"];
+
+static REPAIR_FILES: [&str; 3] = ["PROGRAM", "FAILING", "PASSING"];
 
 static CHECK_FILES: [&str; 3] = ["PROGRAM", "INPUT", "CERT"];
 
@@ -66,6 +72,8 @@ pub fn mode_of(word: &str) -> Option<Mode>
         Some(Mode::Run)
     } else if is_word(word, "rank") {
         Some(Mode::Rank)
+    } else if is_word(word, "repair") {
+        Some(Mode::Repair)
     } else if is_word(word, "sample") {
         Some(Mode::Sample)
     } else {
@@ -81,7 +89,7 @@ pub fn valued(mode: Mode) -> &'static [&'static str]
         Mode::Localise => LOCALISE_VALUED.as_slice(),
         Mode::Check => CHECK_VALUED.as_slice(),
         Mode::Run => RUN_VALUED.as_slice(),
-        Mode::Rank => RANK_VALUED.as_slice(),
+        Mode::Rank | Mode::Repair => RANK_VALUED.as_slice(),
         Mode::Sample => NO_NAMES.as_slice(),
     }
 }
@@ -92,7 +100,9 @@ pub fn plain(mode: Mode) -> &'static [&'static str]
 {
     match mode {
         Mode::Localise => LOCALISE_PLAIN.as_slice(),
-        Mode::Check | Mode::Run | Mode::Rank | Mode::Sample => NO_NAMES.as_slice(),
+        Mode::Check => CHECK_PLAIN.as_slice(),
+        Mode::Run | Mode::Rank => NO_NAMES.as_slice(),
+        Mode::Repair | Mode::Sample => NO_NAMES.as_slice(),
     }
 }
 
@@ -104,6 +114,7 @@ pub fn files(mode: Mode) -> &'static [&'static str]
         Mode::Localise | Mode::Run => RUN_FILES.as_slice(),
         Mode::Check => CHECK_FILES.as_slice(),
         Mode::Rank => RANK_FILES.as_slice(),
+        Mode::Repair => REPAIR_FILES.as_slice(),
         Mode::Sample => SAMPLE_FILES.as_slice(),
     }
 }

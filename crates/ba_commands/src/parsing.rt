@@ -3,7 +3,7 @@
 ghost use Rattle.std.specs.Prelude.{◌≡◌, [], false, map, codes, IfOk};
 ghost use Rattle.clap.specs.Words.{app_of, first_value, found_of, rule_of};
 ghost use Rattle.ba_commands.specs.Modes.{usage_of};
-ghost use Rattle.ba_commands.specs.Commands.{bounds_with, check_with, command_with, localise_with, may_be_certified, number_of, number_or, rank_with, run_with, sample_with, steady_in};
+ghost use Rattle.ba_commands.specs.Commands.{bounds_with, check_with, command_with, localise_with, places_stand_alone, number_of, number_or, rank_with, repair_with, run_with, sample_with, steady_in};
 ghost use Rattle.ba_commands.specs.Parsing.{IsParsedBy, app_for, bare_app, refuses, rule_for, with_rules};
 
 use crate::commands::{Command, Text};
@@ -47,7 +47,7 @@ fn bare_command<'a>(alloc: Global) -> clap::Command<'a>
 
 /// The command with an argument of this role for each of the names.
 ///
-/// The one error is want of memory.
+/// The only error is out of memory.
 fn with_arguments<'a>(
     alloc: Global,
     command: clap::Command<'a>,
@@ -68,7 +68,7 @@ fn with_arguments<'a>(
 /// The command of a mode. What has to be there is asked for when it is read, so that no argument is required
 /// here.
 ///
-/// The one error is want of memory.
+/// The only error is out of memory.
 fn command_for<'a>(alloc: Global, mode: Mode) -> Result<clap::Command<'a>, AllocError>
     ensures { IfOk result (λ command. app_of command ≡ app_for (usage_of mode)) }
 {
@@ -91,7 +91,7 @@ fn refusal(kind: ErrorKind) -> WordsError
 
 /// What `clap` finds in the words, of which the first is the mode.
 ///
-/// `Bad` comes exactly where it finds a fault; `Memory` is want of memory.
+/// `Bad` comes exactly if it finds a fault; `Memory`: out of memory.
 pub fn matches_in<'a>(
     alloc: Global,
     mode: Mode,
@@ -178,17 +178,22 @@ fn is_steady(matches: &ArgMatches<'_>) -> Option<bool>
     }
 }
 
-/// Whether `--cert` may stand here: it doesn't beside `--places`, for which no certificate is written.
-fn may_be_certified(places: bool, cert: &Option<Text<'_>>) -> bool
-    ensures { result ≡ may_be_certified places cert.now }
+/// Whether `--places`, if it stands, has neither `--all` nor `--cert` beside it.
+fn places_stand_alone(places: bool, all: bool, cert: &Option<Text<'_>>) -> bool
+    ensures { result ≡ places_stand_alone places all cert.now }
 {
-    !(places && cert.is_some())
+    !(places && (all || cert.is_some()))
 }
 
-fn localise<'a>(matches: &ArgMatches<'a>, runs: bool, places: bool) -> Option<Command<'a>>
+fn localise<'a>(
+    matches: &ArgMatches<'a>,
+    runs: bool,
+    places: bool,
+    all: bool,
+) -> Option<Command<'a>>
     ensures { result
         ≡ localise_with (first_value (found_of matches.now))
-        (first_value (found_of matches.now)) runs places }
+        (first_value (found_of matches.now)) runs places all }
 {
     let program = text_of(matches, "PROGRAM")?;
     let input = text_of(matches, "INPUT")?;
@@ -197,7 +202,7 @@ fn localise<'a>(matches: &ArgMatches<'a>, runs: bool, places: bool) -> Option<Co
     let sets = number_or(matches, "sets", 1000, 1, 10_000)?;
     let steady = is_steady(matches)?;
     let cert = text_of(matches, "cert");
-    if !may_be_certified(places, &cert) {
+    if !places_stand_alone(places, all, &cert) {
         return None;
     }
     Some(Command::Localise {
@@ -210,13 +215,14 @@ fn localise<'a>(matches: &ArgMatches<'a>, runs: bool, places: bool) -> Option<Co
         cert,
         runs,
         places,
+        all,
         steady,
     })
 }
 
-fn check<'a>(matches: &ArgMatches<'a>) -> Option<Command<'a>>
+fn check<'a>(matches: &ArgMatches<'a>, all: bool) -> Option<Command<'a>>
     ensures { result ≡ check_with (first_value (found_of matches.now))
-        (first_value (found_of matches.now)) }
+        (first_value (found_of matches.now)) all }
 {
     let program = text_of(matches, "PROGRAM")?;
     let input = text_of(matches, "INPUT")?;
@@ -232,6 +238,7 @@ fn check<'a>(matches: &ArgMatches<'a>) -> Option<Command<'a>>
         weights: text_of(matches, "weights"),
         conflicts: u64::from(conflicts),
         sets,
+        all,
     })
 }
 
@@ -270,6 +277,29 @@ fn rank<'a>(matches: &ArgMatches<'a>) -> Option<Command<'a>>
     })
 }
 
+fn repair<'a>(matches: &ArgMatches<'a>) -> Option<Command<'a>>
+    ensures { result
+        ≡ repair_with (first_value (found_of matches.now)) (first_value (found_of matches.now)) }
+{
+    let program = text_of(matches, "PROGRAM")?;
+    let failing = text_of(matches, "FAILING")?;
+    let passing = text_of(matches, "PASSING")?;
+    let bounds = bounds(matches)?;
+    let conflicts = number_or(matches, "conflicts", 200_000, 1, 1_000_000)?;
+    let sets = number_or(matches, "sets", 1000, 1, 10_000)?;
+    let steady = is_steady(matches)?;
+    Some(Command::Repair {
+        program,
+        failing,
+        passing,
+        bounds,
+        weights: text_of(matches, "weights"),
+        conflicts: u64::from(conflicts),
+        sets,
+        steady,
+    })
+}
+
 fn sample<'a>(matches: &ArgMatches<'a>) -> Option<Command<'a>>
     ensures { result ≡ sample_with (first_value (found_of matches.now)) }
 {
@@ -284,16 +314,18 @@ pub fn command_in<'a>(
     matches: &ArgMatches<'a>,
     runs: bool,
     places: bool,
+    all: bool,
 ) -> Option<Command<'a>>
     ensures { result
         ≡ command_with mode (first_value (found_of matches.now))
-        (first_value (found_of matches.now)) runs places }
+        (first_value (found_of matches.now)) runs places all }
 {
     match mode {
-        Mode::Localise => localise(matches, runs, places),
-        Mode::Check => check(matches),
+        Mode::Localise => localise(matches, runs, places, all),
+        Mode::Check => check(matches, all),
         Mode::Run => run(matches),
         Mode::Rank => rank(matches),
+        Mode::Repair => repair(matches),
         Mode::Sample => sample(matches),
     }
 }

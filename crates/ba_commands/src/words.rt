@@ -13,7 +13,7 @@ use crate::parsing::{command_in, matches_in};
 use std::alloc::Global;
 use thiserror::Error;
 
-/// Why words are no command, or want of memory.
+/// Why words are no command, or out of memory.
 #[derive(Clone, Copy, Debug, Error)]
 pub enum WordsError {
     /// The words are no command.
@@ -115,13 +115,14 @@ fn are_readable(mode: Mode, words: &[&str]) -> bool
 /// Reads the words that the program is called with, without its own name, as a command:
 ///
 /// - `localise PROGRAM INPUT --bound B` and, where wanted, `--depth D`, `--weights F`, `--conflicts N`,
-///   `--sets N`, `--cert F`, `--runs`, `--places`, `--restart luby` or `--restart steady`, but not both `--cert F`
-///   and `--places`;
+///   `--sets N`, `--cert F`, `--runs`, `--places`, `--all`, `--restart luby` or `--restart steady`. Neither
+///   `--cert F` nor `--all` stands beside `--places`;
 /// - `check PROGRAM INPUT CERT --bound B` and, where wanted, `--depth D`, `--weights F`, `--conflicts N`,
-///   `--sets N`;
+///   `--sets N`, `--all`;
 /// - `run PROGRAM INPUT --bound B` and, where wanted, `--depth D`;
-/// - `rank PROGRAM INPUTS --bound B` and, where wanted, `--depth D`, `--weights F`, `--conflicts N`, `--sets N`,
-///   `--restart luby` or `--restart steady`;
+/// - `rank PROGRAM INPUTS --bound B` and, where wanted, `--depth D`, `--weights F`, `--conflicts N`,
+///   `--sets N`, `--restart luby` or `--restart steady`;
+/// - `repair PROGRAM FAILING PASSING --bound B` and, where wanted, the options of `rank`;
 /// - `sample N`.
 ///
 /// Behind the mode, options and names of files stand in any order, and `--bound=3` is `--bound 3`. A number
@@ -129,7 +130,7 @@ fn are_readable(mode: Mode, words: &[&str]) -> bool
 /// sets 1 to 10,000, and that of `sample` 1 to 500. Names and values are not empty and do not begin with `-`,
 /// and no option stands twice.
 ///
-/// `Bad` comes exactly where the words are none of this; `Memory` is want of memory.
+/// `Bad` comes exactly if the words are none of this; `Memory`: out of memory.
 pub fn read_words<'a>(alloc: Global, words: &'a [&str]) -> Result<Command<'a>, WordsError>
     ensures { Reads result (command_of (map (λ word. word.now) words.now)) }
 {
@@ -146,7 +147,8 @@ pub fn read_words<'a>(alloc: Global, words: &'a [&str]) -> Result<Command<'a>, W
         Ok(matches) => {
             let runs = matches.get_flag("runs");
             let places = matches.get_flag("places");
-            command_in(mode, &matches, runs, places).ok_or(WordsError::Bad)
+            let all = matches.get_flag("all");
+            command_in(mode, &matches, runs, places, all).ok_or(WordsError::Bad)
         }
         Err(error) => Err(error),
     }

@@ -1,5 +1,5 @@
 -- The places of a list of words are enough: a run comes to no others.
-use Rattle.std.proofs.Common.{◌≡◌, ℕ, ℤ, Bool, true, false, not, ◌&&◌, ◌||◌, cond, List, [], ◌∷◌, map, filter, refl, sym, ◌∙◌, ap, subst}
+use Rattle.std.proofs.Common.{◌≡◌, ℤ, Bool, true, false, not, ◌&&◌, ◌||◌, cond, List, [], ◌∷◌, map, filter, refl, sym, ◌∙◌, ap, subst}
 use Rattle.std.proofs.lemmas.List.Elements.{All-contains_itself, All-head, All-tail, recursion_from_All}
 use Rattle.std.specs.List.{AllByRecursion, list_any}
 use Rattle.std.specs.Prelude.{All, Contains, IsSome, ◌↔◌}
@@ -7,8 +7,8 @@ use Rattle.ba_choices.specs.declared.Choice.{Choice}
 use Rattle.ba_code.specs.Meaning.{path_in}
 use Rattle.ba_code_laws.specs.Tracing.{Relaxes, is_relaxed}
 use Rattle.ba_code_laws.specs.Visits.{Visit, are_kept, chosen, is_keep}
-use Rattle.ba_formula.proofs.Composing.{HasRuns}
 use Rattle.ba_formula.proofs.PlaceRelaxing.{there-is-place}
+use Rattle.ba_formula.specs.Words.{HasRuns, good_on}
 use Rattle.ba_guards.specs.Contract.{Chosen}
 use Rattle.ba_places.proofs.Orders.{contains-among}
 use Rattle.ba_places.specs.Least.{IsPlaceSet, place_judge_of}
@@ -101,7 +101,7 @@ module _ (w : WeightList) (list : WordList) (places : List Place)
           ap (λ t. t || list_any there ms) (not-there is (there m) refl) ∙ rest
           ∙ ap (λ t. list_any there (cond t (m ∷ kept ms) (kept ms))) (sym is)
 
-  module _ (p : Program) (input : Input) (b : Bounds) (has : HasRuns p input b list) where
+  module _ (p : Program) (input : Input) (b : Bounds) (has : HasRuns p (good_on p input b) list) where
     abbrev relaxing : List Place → Relaxes
     relaxing set = admits p (Places set)
 

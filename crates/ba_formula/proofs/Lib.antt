@@ -1,6 +1,7 @@
 pub mod Spreading
 pub mod Members
 pub mod Relaxing
+pub mod Guarding
 pub mod Composing
 pub mod PlaceRelaxing
 pub mod Enough

@@ -14,9 +14,9 @@ use Rattle.ba_tree.specs.declared.run.Input.{Input}
 use Rattle.ba_tree.specs.declared.run.Outcome.TheVariants.{Done}
 use Rattle.ba_tree.specs.declared.tree.Program.{Program}
 
--- The formula encodes the runs of the program faithfully, and each of its models spells the choices of a run that is good where the
--- statements are relaxed whose selectors are false. Where the run as written isn't good there are some. Each group belongs to
--- the statement of its number.
+-- The formula encodes the runs of the program faithfully, and each of its models spells the choices of a run
+-- that is good where the statements are relaxed whose selectors are false. Where the run as written isn't
+-- good there are some. Each group belongs to the statement of its number.
 pub record IsFormulaOf (p : Program) (input : Input) (bounds : Bounds) (weights : WeightList)
     (encoded : Encoded) :
     Type 0 where

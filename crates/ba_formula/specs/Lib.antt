@@ -1,2 +1,4 @@
+pub mod Words
 pub mod Formulas
 pub mod PlaceFormulas
+pub mod AllFormulas

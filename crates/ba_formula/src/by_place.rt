@@ -9,14 +9,12 @@ ghost use Rattle.ba_lits.specs.Literals.{IsClause};
 ghost use Rattle.ba_tree.specs.Least.{AreWeightsOf};
 ghost use Rattle.ba_tree.specs.Run.{fits};
 
+use crate::runs::words_of;
 use ba_encode::{Encoded, Grouping, encode};
-use ba_guards::{guard, inputs_are_words};
-use ba_inline::inline;
 use ba_items::Items;
 use ba_places::places_of;
 use ba_tree::run::{Bounds, Input, Place, Weights};
 use ba_tree::tree::Program;
-use ba_unroll::unroll;
 use ba_wordlist::words::WordList;
 use std::alloc::{AllocError, Global};
 
@@ -29,7 +27,7 @@ pub struct PlaceFormula {
 
 /// The formula of a list of words, with a group for each of these places.
 ///
-/// The one error is want of memory.
+/// The only error is out of memory.
 fn encode_places(
     alloc: Global,
     words: &WordList,
@@ -52,15 +50,16 @@ fn encode_places(
     }
 }
 
-/// The formula of a program on an input, where single executions of statements that have a weight may be relaxed. Each has
-/// a group, by its number in the list of places. The places stand in their order, and each weighs 1.
+/// The formula of a program on an input, where single executions of statements that have a weight may be
+/// relaxed. Each has a group, by its number in the list of places. The places are in their order, and each
+/// weighs 1.
 ///
-/// The formula encodes the program faithfully. It has a model in which exactly the selectors of a set of these places are
-/// false where, and only where, the set is feasible. A set is feasible if some run is good in which these executions
-/// may yield any value of their type. The choices of such a run are read from the model. Whichever executions of
-/// statements with a weight are relaxed, a good run uses up its choices at places of the list alone.
+/// The formula encodes the program faithfully. It has a model in which exactly the selectors of a set of
+/// these places are false if and only if the set is feasible. A set is feasible if some run is good in which
+/// these executions may yield any value of their type. The choices of such a run are read from the model.
+/// Whichever executions are relaxed, a good run uses up its choices at places of the list alone.
 ///
-/// The one error is want of memory.
+/// The only error is out of memory.
 pub fn place_formula_of(
     alloc: Global,
     program: &Program,
@@ -72,12 +71,7 @@ pub fn place_formula_of(
     requires weights { AreWeightsOf program.now weights.now.of }
     ensures { IfOk result (IsPlaceFormulaOf program.now input.now bounds weights.now.of) }
 {
-    let looping = inline(alloc, program, bounds.frames)?;
-    let straight = unroll(alloc, &looping, bounds.turns)?;
-    drop(looping);
-    inputs_are_words();
-    let words = guard(alloc, &straight, input)?;
-    drop(straight);
+    let words = words_of(alloc, program, input, bounds)?;
     let places = places_of(alloc, &words, weights)?;
     encode_places(alloc, &words, places)
 }

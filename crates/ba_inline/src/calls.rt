@@ -178,7 +178,8 @@ impl<'a> Inliner<'a> {
         function: FnId,
         args: &[Arg],
     ) -> Result<(), AllocError>
-        ensures { OnOk result (Executes self.now (λ p frame. call_stmt_part p frame stmt call function args.now)
+        ensures { OnOk result (Executes self.now
+            (λ p frame. call_stmt_part p frame stmt call function args.now)
             declared.old declared.new out.old.items out.new.items) }
     {
         let since = declared.moment();

@@ -36,7 +36,8 @@ pub struct Frame {
     pub frames: u32,
 }
 
-/// Inlines within one frame, at one path: what stands still, what the variables of the program are there, the frame, and the path.
+/// Inlines within one frame, at one path: the setting, what the variables of the program are there, the
+/// frame, and the path.
 #[derive(Clone, Copy)]
 pub struct Inliner<'a> {
     pub setting: &'a Setting<'a>,

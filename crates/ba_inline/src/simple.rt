@@ -47,7 +47,8 @@ impl<'a> Inliner<'a> {
         index: &Expr,
         value: &Expr,
     ) -> Result<(), AllocError>
-        ensures { OnOk result (Executes self.now (λ p frame. store_part p frame stmt array index.now value.now)
+        ensures { OnOk result (Executes self.now
+            (λ p frame. store_part p frame stmt array index.now value.now)
             declared.old declared.new out.old.items out.new.items) }
     {
         let (number, _) = array_of(self.setting, self.scope, declared, array)?;

@@ -32,16 +32,18 @@ use ba_tree::run::{Bounds, Input, Weights};
 use ba_tree::tree::Program;
 use std::alloc::Global;
 
-/// The least sets of statements whose change could repair a run that is not good as written, each with the choices of such a run: all of
-/// them, in order, where they are at most `sets`; else one more than that; or that there is none; or that the conflicts are spent.
+/// The least sets of statements whose change could repair a run that is not good as written, each with the
+/// choices of such a run. If they are at most `sets`, the answer has all of them, in order, else one more
+/// than that. Or it says that there is none, or that the conflicts are spent.
 ///
-/// A derivation of the answer is handed to `steps`: the formula of the program, which encodes faithfully which runs are good, and
-/// then each step of the search, which holds as many conflicts as are allowed where they are spent. The checker allows each step
-/// before it is handed on, and judges each set's run by the interpreter.
+/// A derivation of the answer is handed to `steps`: the formula of the program, which encodes faithfully
+/// which runs are good, and then each step of the search. If the conflicts are spent, the steps have as many
+/// as are allowed. The checker allows each step before it is handed on, and the interpreter judges each run.
 ///
-/// The search restarts and keeps learnt clauses by these rules; what is promised holds for all of them. `SinkFailed` comes only where
-/// the faults of `steps` rose; `Memory` for want of memory. What was handed on before an error stays there: the formula, and steps over it
-/// that are allowed one after the other.
+/// The search restarts and keeps learnt clauses by these rules; what is promised holds for all of them.
+///
+/// `SinkFailed`: the faults of `steps` rose. `Memory`: out of memory. What was handed on before an error
+/// stays there: the formula, and steps over it that are allowed one after the other.
 pub fn localise<D: StepSink + Drop, R: SearchRules + Drop>(
     alloc: Global,
     program: &Program,
@@ -70,13 +72,13 @@ pub fn localise<D: StepSink + Drop, R: SearchRules + Drop>(
     search_for(alloc, &encoded, judge, conflicts, sets, rules, steps)
 }
 
-/// The least sets of single executions that could repair a run that is not good as written, each with the choices of such
-/// a run. The sets are of numbers in a list of places, which is given too.
+/// The least sets of single executions that could repair a run that is not good as written, each with the
+/// choices of such a run. The sets are of numbers in a list of places, which is given too.
 ///
-/// What is promised, handed to `steps` and left there is as for [`localise`]. In place of statements there are places of
-/// statements that have a weight. Each execution is relaxed by itself, and weighs 1.
+/// What is promised, handed to `steps` and left there is as for [`localise`]. In place of statements there
+/// are places of statements that have a weight. Each execution is relaxed by itself, and weighs 1.
 ///
-/// `SinkFailed` comes only where the faults of `steps` rose; `Memory` for want of memory.
+/// `SinkFailed`: the faults of `steps` rose. `Memory`: out of memory.
 pub fn localise_places<D: StepSink + Drop, R: SearchRules + Drop>(
     alloc: Global,
     program: &Program,
@@ -110,10 +112,12 @@ pub fn localise_places<D: StepSink + Drop, R: SearchRules + Drop>(
     Ok(PlaceVerdict { places, verdict })
 }
 
-/// The least sets of groups of a formula that encodes faithfully which runs are good.
+/// The least sets of groups of a formula that encodes faithfully which runs are good, whatever the groups and
+/// the runs are. Each model of the formula makes some selector false, and the judge calls the choices good
+/// that are read from it. What is promised, handed to `steps` and left there is as for [`localise`].
 ///
-/// `SinkFailed` comes only where the faults of `steps` rose; `Memory` for want of memory.
-fn search_for<D, J, R>(
+/// `SinkFailed`: the faults of `steps` rose. `Memory`: out of memory.
+pub fn search_for<D, J, R>(
     alloc: Global,
     encoded: &Encoded,
     judge: J,
@@ -149,7 +153,7 @@ where
 
 /// All least sets, by steps that go through the checker to the sink. Gives the checker back.
 ///
-/// `SinkFailed` comes only where the sink's faults rose; `Memory` for want of memory.
+/// `SinkFailed`: the sink's faults rose. `Memory`: out of memory.
 fn all_sets_into<D, J, R>(
     alloc: Global,
     encoded: &Encoded,

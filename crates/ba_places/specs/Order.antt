@@ -10,8 +10,8 @@ use Rattle.ba_tree.specs.declared.run.Place.{Place}
 use Rattle.ba_tree.specs.declared.run.Step.{Step}
 use Rattle.ba_tree.specs.declared.run.Step.TheVariants.{Call, Turn}
 
--- a call comes before a turn; calls go by their numbers, turns by the statement of the condition and then by
--- the turn
+-- a call comes before an iteration; calls go by their numbers, iterations by the statement of the condition
+-- and then by their number
 abbrev pub step_cmp : Step → Step → Ordering
 step_cmp (Call c) (Call d) = nat_cmp c.0 d.0
 step_cmp (Call c) (Turn l m) = Less

@@ -1,5 +1,5 @@
-//! Which choices make a good run where some executions of a program are relaxed: with them its run on the failing input
-//! is done.
+//! Which choices make a good run if some executions of a program are relaxed: with them its run on the
+//! failing input is done.
 
 ghost use Rattle.std.specs.Prelude.{◌≡◌, IsTrue, true};
 ghost use Rattle.ba_tree.specs.Run.{are_bounds, is_done};
@@ -19,8 +19,8 @@ fn is_done(outcome: Outcome) -> bool
     matches!(outcome, Outcome::Done)
 }
 
-/// A judge that runs a program on an input, within bounds. Its groups are the places of a list, by their numbers from 1;
-/// any other number relaxes nothing.
+/// A judge that runs a program on an input, within bounds. Its groups are the places of a list, by their
+/// numbers from 1; any other number relaxes nothing.
 #[derive(Drop)]
 pub struct PlaceJudge<'a> {
     alloc: Global,
@@ -32,8 +32,8 @@ pub struct PlaceJudge<'a> {
 }
 
 impl<'a> PlaceJudge<'a> {
-    /// The judge of this program on this input by these places, within these bounds. They are from 1 to 128 turns of a
-    /// loop, and from 1 to 32 frames. It takes no memory.
+    /// The judge of this program on this input by these places, within these bounds. They are 1 to 128
+    /// iterations of a loop, and 1 to 32 frames. It takes no memory.
     pub fn new(
         alloc: Global,
         program: &'a Program,

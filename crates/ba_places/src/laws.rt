@@ -7,14 +7,15 @@ ghost use Rattle.ba_places.specs.Numbers.{AreSuspects, judge_by, places_at, unit
 ghost use Rattle.ba_tree.specs.Least.{AreLeast, WeightList};
 ghost use Rattle.ba_tree.specs.declared.run.Place.{Place};
 
-/// The list of the least sets of places is one: no other list holds the same sets, each once and in their order.
+/// The list of the least sets of places is one: no other list has the same sets, each once and in their
+/// order.
 pub fn least_places_are_unique()
     ensures { (weights : WeightList) (good : JudgeOfPlaces) (sets others : List (List Place))
         → AreLeastPlaces weights good sets → AreLeastPlaces weights good others → sets ≡ others }
 {}
 
-/// Where a list of places is enough, the least sets of their numbers are the least sets of places, in order. The same holds
-/// of more least sets than may be listed. For a least set lies within the list.
+/// If a list of places is enough, the least sets of their numbers are the least sets of places, in order. The
+/// same holds of more least sets than may be listed. For a least set lies within the list.
 pub fn least_by_number()
     ensures all { (weights : WeightList) (good : JudgeOfPlaces) (places : List Place)
         (sets : List (List ℕ)) → AreSuspects weights good places

@@ -1,5 +1,5 @@
-//! Single executions of statements as suspects: the order of their places, which runs are good where some are relaxed, and the
-//! least sets.
+//! Single executions of statements as suspects: the order of their places, which runs are good if some are
+//! relaxed, and the least sets.
 //!
 //! A list of places numbers them, so that a search over numbered groups is one over places.
 #![tactic(auto)]

@@ -26,7 +26,7 @@ fn has_weight(weights: &Weights, stmt: StmtId) -> bool
 
 /// The same place once more.
 ///
-/// The one error is want of memory.
+/// The only error is out of memory.
 pub(crate) fn copy_of(alloc: Global, place: &Place) -> Result<Place, AllocError>
     ensures { IfOk result (λ copy. copy ≡ place.now) }
 {
@@ -57,7 +57,7 @@ fn weighed_places(
 
 /// The places of the list whose statements have a weight, ascending, each of them once.
 ///
-/// The one error is want of memory.
+/// The only error is out of memory.
 pub fn places_of(
     alloc: Global,
     words: &WordList,

@@ -19,7 +19,7 @@ pub fn place_at(places: &[Place], number: u32) -> Option<&Place>
 
 /// The places of these numbers: a number that has none names none.
 ///
-/// The one error is want of memory.
+/// The only error is out of memory.
 pub fn places_at(
     alloc: Global,
     places: &[Place],

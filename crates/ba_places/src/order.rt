@@ -8,7 +8,7 @@ ghost use Rattle.ba_tree.specs.declared.run.Place.{Place};
 use ba_tree::run::{Place, Step};
 use std::cmp::Ordering;
 
-/// The order of two steps: a call comes before a turn.
+/// The order of two steps: a call comes before an iteration.
 fn compare_steps(a: Step, b: Step) -> Ordering
     ensures { result ≡ step_cmp a b }
 {

@@ -9,5 +9,5 @@ mod listing;
 mod statements;
 
 pub use lines::Lines;
-pub use listing::report;
+pub use listing::{Listing, report};
 pub use statements::{info_of, push_source, push_statement_head};

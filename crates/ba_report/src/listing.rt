@@ -18,10 +18,10 @@ use std::alloc::{AllocError, Global};
 /// The material of a report: the lines of the source, the program that they spell, and whether each set has a
 /// line for its run.
 #[derive(Drop)]
-struct Listing<'a> {
-    lines: Lines<'a>,
-    program: &'a Program,
-    runs: bool,
+pub struct Listing<'a> {
+    pub lines: Lines<'a>,
+    pub program: &'a Program,
+    pub runs: bool,
 }
 
 impl Listing<'_> {
@@ -57,7 +57,9 @@ impl Listing<'_> {
     }
 
     /// Appends the lines of a set with this number.
-    fn push_set(&self, number: u64, set: &[u32], text: &mut Vec<u8>) -> Result<(), AllocError>
+    ///
+    /// The only error is out of memory.
+    pub fn push_set(&self, number: u64, set: &[u32], text: &mut Vec<u8>) -> Result<(), AllocError>
         ensures { OnOk result (text.new.items ≡ text.old.items
             ++ set_lines self.now.lines self.now.program.now number set.now) }
     {
@@ -68,7 +70,9 @@ impl Listing<'_> {
     }
 
     /// Appends the line of a run, if runs are shown.
-    fn push_run(&self, run: &[Choice], text: &mut Vec<u8>) -> Result<(), AllocError>
+    ///
+    /// The only error is out of memory.
+    pub fn push_run(&self, run: &[Choice], text: &mut Vec<u8>) -> Result<(), AllocError>
         ensures { OnOk result (text.new.items ≡ text.old.items ++ run_line self.now.runs run.now) }
     {
         if !self.runs {

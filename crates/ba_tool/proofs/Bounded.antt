@@ -5,14 +5,14 @@ use Rattle.std.proofs.lemmas.Bool.Decides.{nat_tests}
 use Rattle.std.specs.List.{list_all}
 use Rattle.ba_tree.specs.Run.{are_bounds}
 use Rattle.ba_tree.specs.declared.run.Bounds.{Bounds}
-use Rattle.ba_commands.specs.Commands.{bounds_from, bounds_with, check_from, file_at, value_in, command_in, command_of, command_of_parts, command_on, command_with, localise_from, may_be_certified, number_of, number_or, rank_from, run_from, sample_from, steady_in}
+use Rattle.ba_commands.specs.Commands.{bounds_from, bounds_with, check_from, file_at, value_in, command_in, command_of, command_of_parts, command_on, command_with, localise_from, number_of, number_or, places_stand_alone, rank_from, repair_from, run_from, sample_from, steady_in}
 use Rattle.ba_commands.specs.Modes.{Word, usage_of}
 use Rattle.ba_bytes.specs.Numbers.{number_in}
 use Rattle.ba_commands.specs.Words.{Part, files_in, is_accepted, is_line, mode_of, options_in, parts_of, split_words, stands}
 use Rattle.ba_commands.specs.declared.commands.Command.{Command}
 use Rattle.ba_commands.specs.declared.commands.Command.TheVariants as command
 use Rattle.ba_commands.specs.declared.modes.Mode.{Mode}
-use Rattle.ba_commands.specs.declared.modes.Mode.TheVariants.{Localise, Check, Run, Rank, Sample}
+use Rattle.ba_commands.specs.declared.modes.Mode.TheVariants.{Localise, Check, Run, Rank, Repair, Sample}
 use Rattle.ba_tool.specs.Requests.{MayBeDone, request_by, request_of}
 
 -- NUMBERS of a range
@@ -29,10 +29,12 @@ abbrev AreWithin : Bounds → Type 0
 AreWithin b = are_bounds b ≡ true
 
 abbrev IsWithin : Command → Type 0
-IsWithin (command.Localise program input bounds weights conflicts sets cert runs places steady) =
+IsWithin (command.Localise program input bounds weights conflicts sets cert runs places all steady) =
     AreWithin bounds × (conflicts < 2 ^ 62)
-IsWithin (command.Check program input cert bounds weights conflicts sets) = AreWithin bounds
+IsWithin (command.Check program input cert bounds weights conflicts sets all) = AreWithin bounds
 IsWithin (command.Rank program inputs bounds weights conflicts sets steady) =
+    AreWithin bounds × (conflicts < 2 ^ 62)
+IsWithin (command.Repair program failing passing bounds weights conflicts sets steady) =
     AreWithin bounds × (conflicts < 2 ^ 62)
 IsWithin (command.Run program input bounds) = AreWithin bounds
 IsWithin (command.Sample additions) = IsFrom 1 500 additions
@@ -93,22 +95,22 @@ countable n h = let most : n ≤ 1000000 = grind (arith, nat_tests, h) in omega 
 -- COMMANDS
 
 localise_within : (program input : Option Word) (bounds : Option Bounds)
-    (weights conflicts sets cert : Option Word) (runs places : Bool) (restart : Option Word) →
+    (weights conflicts sets cert : Option Word) (runs places all : Bool) (restart : Option Word) →
     IfSome bounds AreWithin
-    → IfWithin (localise_from program input bounds weights conflicts sets cert runs places restart)
-localise_within program input bounds weights conflicts sets cert runs places restart within =
+    → IfWithin (localise_from program input bounds weights conflicts sets cert runs places all restart)
+localise_within program input bounds weights conflicts sets cert runs places all restart within =
     then_any IsWithin program _ (λ p. then_any IsWithin input _
     (λ i. then_if AreWithin IsWithin bounds _ within
     (λ b ok. then_if (IsFrom 1 1000000) IsWithin (number_or 200000 1 1000000 conflicts) _
     (number_or-range 200000 1 1000000 conflicts refl)
     (λ c few. then_any IsWithin (number_or 1000 1 10000 sets) _
     (λ s. then_any IsWithin (steady_in restart) _
-    (λ r. if_any IsWithin (may_be_certified places cert) _ (ok, countable c few)))))))
+    (λ r. if_any IsWithin (places_stand_alone places all cert) _ (ok, countable c few)))))))
 
 check_within : (program input cert : Option Word) (bounds : Option Bounds) (weights conflicts sets : Option
-    Word)
-    → IfSome bounds AreWithin → IfWithin (check_from program input cert bounds weights conflicts sets)
-check_within program input cert bounds weights conflicts sets within =
+    Word) (all : Bool)
+    → IfSome bounds AreWithin → IfWithin (check_from program input cert bounds weights conflicts sets all)
+check_within program input cert bounds weights conflicts sets all within =
     then_any IsWithin program _ (λ p. then_any IsWithin input _ (λ i. then_any IsWithin cert _
     (λ k. then_if AreWithin IsWithin bounds _ within
     (λ b ok. then_if (IsFrom 1 1000000) IsWithin (number_or 200000 1 1000000 conflicts) _
@@ -132,36 +134,53 @@ rank_within program inputs bounds weights conflicts sets restart within =
     (λ c few. then_any IsWithin (number_or 1000 1 10000 sets) _
     (λ s. then_any IsWithin (steady_in restart) _ (λ r. (ok, countable c few)))))))
 
+repair_within : (program failing passing : Option Word) (bounds : Option Bounds)
+    (weights conflicts sets restart : Option Word) → IfSome bounds AreWithin
+    → IfWithin (repair_from program failing passing bounds weights conflicts sets restart)
+repair_within program failing passing bounds weights conflicts sets restart within =
+    then_any IsWithin program _ (λ p. then_any IsWithin failing _ (λ f. then_any IsWithin passing _
+    (λ i. then_if AreWithin IsWithin bounds _ within
+    (λ b ok. then_if (IsFrom 1 1000000) IsWithin (number_or 200000 1 1000000 conflicts) _
+    (number_or-range 200000 1 1000000 conflicts refl)
+    (λ c few. then_any IsWithin (number_or 1000 1 10000 sets) _
+    (λ s. then_any IsWithin (steady_in restart) _ (λ r. (ok, countable c few))))))))
+
 sample_within : (additions : Option ℕ) → IfSome additions (IsFrom 1 500) → IfWithin (sample_from additions)
 sample_within additions within = then_if (IsFrom 1 500) IsWithin additions _ within (λ n few. few)
 
-with_within : (mode : Mode) (name value : Word → Option Word) (runs places : Bool)
-    → IfWithin (command_with mode name value runs places)
-with_within Localise name value runs places =
+with_within : (mode : Mode) (name value : Word → Option Word) (runs places all : Bool)
+    → IfWithin (command_with mode name value runs places all)
+with_within Localise name value runs places all =
     localise_within (name (codes "PROGRAM")) (name (codes "INPUT")) (bounds_with value) (value (codes
     "weights"))
-    (value (codes "conflicts")) (value (codes "sets")) (value (codes "cert")) runs places
+    (value (codes "conflicts")) (value (codes "sets")) (value (codes "cert")) runs places all
     (value (codes "restart"))
     (bounds_within (value (codes "bound")) (value (codes "depth")))
-with_within Check name value runs places =
+with_within Check name value runs places all =
     check_within (name (codes "PROGRAM")) (name (codes "INPUT")) (name (codes "CERT")) (bounds_with value)
-    (value (codes "weights")) (value (codes "conflicts")) (value (codes "sets"))
+    (value (codes "weights")) (value (codes "conflicts")) (value (codes "sets")) all
     (bounds_within (value (codes "bound")) (value (codes "depth")))
-with_within Run name value runs places =
+with_within Run name value runs places all =
     run_within (name (codes "PROGRAM")) (name (codes "INPUT")) (bounds_with value)
     (bounds_within (value (codes "bound")) (value (codes "depth")))
-with_within Rank name value runs places =
+with_within Rank name value runs places all =
     rank_within (name (codes "PROGRAM")) (name (codes "INPUTS")) (bounds_with value) (value (codes "weights"))
     (value (codes "conflicts")) (value (codes "sets")) (value (codes "restart"))
     (bounds_within (value (codes "bound")) (value (codes "depth")))
-with_within Sample name value runs places = sample_within (number_of 1 500 (name (codes "N")))
+with_within Repair name value runs places all =
+    repair_within (name (codes "PROGRAM")) (name (codes "FAILING")) (name (codes "PASSING"))
+    (bounds_with value) (value (codes "weights")) (value (codes "conflicts")) (value (codes "sets"))
+    (value (codes "restart"))
+    (bounds_within (value (codes "bound")) (value (codes "depth")))
+with_within Sample name value runs places all = sample_within (number_of 1 500 (name (codes "N")))
     (number_of-range 1 500 (name (codes "N")))
 
 on_within : (mode : Mode) (parts : List Part) → IfWithin (command_on mode parts)
 on_within mode parts =
     if_any IsWithin (is_line (usage_of mode) parts) (command_of_parts mode parts)
     (with_within mode (file_at (usage_of mode).files (files_in parts)) (value_in parts)
-    (stands (codes "runs") (options_in parts)) (stands (codes "places") (options_in parts)))
+    (stands (codes "runs") (options_in parts)) (stands (codes "places") (options_in parts))
+    (stands (codes "all") (options_in parts)))
 
 in_within : (mode : Mode) (words : List Word) → IfWithin (command_in mode words)
 in_within mode words =
@@ -181,15 +200,23 @@ few_of n h = grind (arith, nat_tests, h)
 
 request_within : (o : Option Command) → IfWithin o → MayBeDone (request_by o)
 request_within None within = tt
-request_within (Some (command.Localise program input bounds weights conflicts sets cert runs false steady))
+request_within (Some (command.Localise program input bounds weights conflicts sets cert runs false false
+    steady))
     within
     = record { countable = within.1; bounds = within.0 }
-request_within (Some (command.Localise program input bounds weights conflicts sets cert runs true steady))
+request_within (Some (command.Localise program input bounds weights conflicts sets cert runs false true
+    steady))
+    within
+    = record { countable = within.1; bounds = within.0 }
+request_within (Some (command.Localise program input bounds weights conflicts sets cert runs true all steady))
     within =
     record { countable = within.1; bounds = within.0 }
-request_within (Some (command.Check program input cert bounds weights conflicts sets)) within = within
+request_within (Some (command.Check program input cert bounds weights conflicts sets false)) within = within
+request_within (Some (command.Check program input cert bounds weights conflicts sets true)) within = within
 request_within (Some (command.Run program input bounds)) within = within
 request_within (Some (command.Rank program inputs bounds weights conflicts sets steady)) within =
+    record { countable = within.1; bounds = within.0 }
+request_within (Some (command.Repair program failing passing bounds weights conflicts sets steady)) within =
     record { countable = within.1; bounds = within.0 }
 request_within (Some (command.Sample additions)) within = few_of additions within
 

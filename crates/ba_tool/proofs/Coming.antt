@@ -20,10 +20,14 @@ use Rattle.ba_steps.proofs.SinkLaws.{Outlasts-refl}
 use Rattle.ba_steps.specs.Sinks.{Told}
 use Rattle.ba_world.proofs.WholeReads.{only_reads_none, only_reads_on}
 use Rattle.ba_world.specs.World.{OnlyReads, Outside}
+use Rattle.mode_all.specs.Jobs as several
+use Rattle.mode_all.specs.Searches as all_searches
+use Rattle.mode_all.specs.declared.jobs.AllJob.{AllJob}
+use Rattle.mode_check.specs.Checks.{all_runs, one_run}
 use Rattle.mode_check.specs.Checks as check
 use Rattle.mode_check.specs.Jobs as checks
 use Rattle.mode_check.specs.declared.jobs.CheckJob.{CheckJob}
-use Rattle.mode_localise.specs.Certifying.{Certifies}
+use Rattle.ba_certified.specs.Certifying.{Certifies}
 use Rattle.mode_localise.specs.Jobs as localise
 use Rattle.mode_localise.specs.Jobs.{sample_job, sample_texts}
 use Rattle.mode_localise.specs.Leaving as leaving
@@ -34,10 +38,14 @@ use Rattle.mode_places.specs.declared.jobs.PlacesJob.{PlacesJob}
 use Rattle.mode_rank.specs.Jobs as rank
 use Rattle.mode_rank.specs.Searches as searches
 use Rattle.mode_rank.specs.declared.jobs.RankJob.{RankJob}
+use Rattle.mode_repair.specs.Jobs as repair_jobs
+use Rattle.mode_repair.specs.Searches as repair_searches
+use Rattle.mode_repair.specs.declared.jobs.RepairJob.{RepairJob}
+use Rattle.mode_repair.specs.declared.texts.RepairTexts.{RepairTexts}
 use Rattle.mode_run.specs.Runs as run
 use Rattle.mode_run.specs.Runs.{run_answer}
 use Rattle.mode_run.specs.declared.running.RunJob.{RunJob}
-use Rattle.ba_tool.specs.Calls.{Comes, RequestComesTo, RequestEnds, behind, in_reading, in_sample}
+use Rattle.ba_tool.specs.Calls.{Comes, RequestComesTo, RequestEnds, behind, in_reading, in_repair, in_sample}
 use Rattle.ba_tool.specs.Requests.{cert_of, files_in, head_in}
 use Rattle.ba_tool.specs.declared.requests.Request.{Request}
 use Rattle.ba_tool.specs.declared.requests.Request.TheVariants as request
@@ -142,12 +150,50 @@ localise_ends j x before read after t u result are reads ends = record {
   outlasts = ends.outlasts;
 }
 
+pub all_ends : (j : AllJob) (x : Texts) (before read after : Outside) (t u : Told)
+    (result : Result Answer SearchError) → AreRead (several.files_of j) (parts_of x) before read →
+    OnlyReads before read → all_searches.TextsEnd j x read after t u result →
+    RequestEnds (request.LocaliseAll j) before after t u result
+all_ends j x before read after t u result are reads ends = record {
+  answer = IfOk-weaker result _ (Comes (request.LocaliseAll j) before after t u)
+      (λ a k. record {
+        read = read;
+        handed = k.handed;
+        comes = by_texts x read are (refl, k.is);
+        reads = reads;
+        hands = k.hands;
+        certifies = k.certifies;
+      }) ends.answer;
+  left = behind x read are ends.left;
+  cause = λ failed. faults_later j.cert before read after t u reads (ends.cause failed);
+  outlasts = ends.outlasts;
+}
+
 pub check_ends : (j : CheckJob) (x : Texts) (before read after : Outside) (t u : Told)
     (result : Result Answer SearchError) → AreRead (checks.files_of j) (parts_of x) before read →
-    OnlyReads before read → OnlyReads read after → check.TextsEnd j x read after t u result →
+    OnlyReads before read → OnlyReads read after → check.TextsEnd (one_run j) j x read after t u result →
     RequestEnds (request.Check j) before after t u result
 check_ends j x before read after t u result are reads more ends = record {
   answer = IfOk-weaker result _ (Comes (request.Check j) before after t u)
+      (λ a k. record {
+        read = after;
+        handed = k.handed;
+        comes = by_texts x read are k.is;
+        reads = only_reads_on before read after reads more;
+        hands = k.hands;
+        certifies = refl;
+      }) ends.answer;
+  left = behind x read are ends.left;
+  cause = ends.cause;
+  outlasts = ends.outlasts;
+}
+
+pub check_all_ends : (j : CheckJob) (x : Texts) (before read after : Outside) (t u : Told)
+    (result : Result Answer SearchError) → AreRead (checks.files_with_inputs j) (parts_of x) before read →
+    OnlyReads before read → OnlyReads read after → check.TextsEnd (all_runs j) j x read after t u result →
+    RequestEnds (request.CheckAll j) before after t u result
+check_all_ends j x before read after t u result are reads more ends = record {
+  answer = IfOk-weaker result _ (Comes (request.CheckAll j) before after t u)
       (λ a k. record {
         read = after;
         handed = k.handed;
@@ -214,6 +260,26 @@ rank_ends j x before after t u result are reads ends = record {
         certifies = refl;
       }) ends.answer;
   left = behind x after are (refl, ends.left);
+  cause = ends.cause;
+  outlasts = ends.outlasts;
+}
+
+pub repair_ends : (j : RepairJob) (x : RepairTexts) (before after : Outside) (t u : Told)
+    (result : Result Answer SearchError) →
+    AreRead (repair_jobs.files_of j) (repair_jobs.parts_of x) before after → OnlyReads before after →
+    repair_searches.TextsEnd j x t u result →
+    RequestEnds (request.Repair j) before after t u result
+repair_ends j x before after t u result are reads ends = record {
+  answer = IfOk-weaker result _ (Comes (request.Repair j) before after t u)
+      (λ a k. record {
+        read = after;
+        handed = k.handed;
+        comes = by_texts x after are (refl, k.is);
+        reads = reads;
+        hands = k.hands;
+        certifies = refl;
+      }) ends.answer;
+  left = in_repair j refl x are ends.left;
   cause = ends.cause;
   outlasts = ends.outlasts;
 }

@@ -7,7 +7,8 @@ use Rattle.ba_answers.specs.declared.answers.Answer.TheVariants as answer
 use Rattle.ba_answers.specs.declared.file.File.{File}
 use Rattle.ba_answers.specs.declared.status.Status.{Status}
 use Rattle.ba_answers.specs.declared.status.Status.TheVariants as status
-use Rattle.ba_cases.proofs.OneAnswer.{case_of_meaning, none_or_one, one_at_once}
+use Rattle.ba_cases.proofs.OneAnswer.{IsOfMeaning, all_of_meaning, case_of_meaning, none_or_one, one_at_once}
+use Rattle.ba_cases.specs.AllCases.{all_answer as all_answer_at_once}
 use Rattle.ba_cases.specs.AtOnce.{IsAtOnce, case_answer}
 use Rattle.ba_cases.specs.Reading.{FilesAreDue, FilesComeTo, Unaided, by_texts, of_texts, parts_of, stopped, unread}
 use Rattle.ba_cases.specs.Searching.{Agree, IsOfSearch, are_one, first_spent, runs_differ, second_spent}
@@ -21,8 +22,10 @@ use Rattle.ba_tree.specs.declared.tree.Program.{Program}
 use Rattle.ba_world.proofs.WholeReads.{only_reads_none, rose_since}
 use Rattle.ba_world.specs.World.{HasReadFault, OnlyReads, Outside, Rose}
 use Rattle.ba_world.specs.declared.read.ReadFileError.{ReadFileError}
+use Rattle.mode_all.proofs.Rows.{one_answer_of_all, answer_of_search as all_answer_of_search}
+use Rattle.mode_all.specs.Answers as several
 use Rattle.mode_check.proofs.Checking.{EndsCheck, check_told}
-use Rattle.mode_check.specs.Checks.{IsEndOfCheck}
+use Rattle.mode_check.specs.Checks.{IsEndOfCheck, Subject, all_runs, one_run}
 use Rattle.mode_check.specs.Checks as check
 use Rattle.mode_check.specs.declared.jobs.CheckJob.{CheckJob}
 use Rattle.mode_localise.proofs.Rows.{answer_of_search, one_answer}
@@ -33,6 +36,10 @@ use Rattle.mode_places.proofs.Rows.{one_place_answer, answer_of_search as place_
 use Rattle.mode_places.specs.Answers as places
 use Rattle.mode_rank.proofs.OneRanking.{IsOfRanking, ranking_of_search, one_answer as one_ranking}
 use Rattle.mode_rank.specs.Answers as rank
+use Rattle.mode_repair.proofs.Rows.{one_repair_answer, answer_of_search as repair_answer_of_search}
+use Rattle.mode_repair.specs.Answers as repair
+use Rattle.mode_repair.specs.Jobs as repair_jobs
+use Rattle.mode_repair.specs.declared.texts.RepairTexts.{RepairTexts}
 use Rattle.mode_run.proofs.Ending.{run_of_meaning}
 use Rattle.mode_run.specs.Runs.{run_answer}
 use Rattle.ba_tool.specs.Calls.{Call, EndsWhere, EndsWith, IsDue, IsEndFor, IsEndOf, IsEndOfRanking, IsEndOfSample, IsEndOfSearch, IsShown, RequestComesTo, RunsTo, TellsCheck, TellsFailing, as_wanted, located, memory, no_repair, ranked, read_fault, sample_spent, sampled, spent, spent_at, too_many, too_many_at, write_fault}
@@ -49,6 +56,7 @@ own_end : (a : Answer) → IsEndFor a (status_of a)
 own_end (answer.Located report) = inl refl
 own_end (answer.Sampled additions weight sets) = inl refl
 own_end (answer.Ranked report) = inl refl
+own_end (answer.Edits report) = inl refl
 own_end (answer.Accepted claimed) = refl
 own_end (answer.AssertFails at) = refl
 own_end (answer.Trap at) = refl
@@ -58,6 +66,7 @@ own_end (answer.BadProgram fault) = refl
 own_end (answer.BadInput which fault line) = refl
 own_end answer.TooLarge = refl
 own_end (answer.BeyondBound at line) = refl
+own_end (answer.PassingFails line) = refl
 own_end answer.NoRepair = inl refl
 own_end (answer.TooManySets weight most line) = inl refl
 own_end (answer.BudgetSpent conflicts line) = spent
@@ -71,6 +80,7 @@ may_spend : (due : Answer) → IsOfSearch due → IsEndFor due status.BudgetSpen
 may_spend (answer.Located report) of = inr refl
 may_spend (answer.Sampled additions weight sets) of = inr refl
 may_spend (answer.Ranked report) of = inr refl
+may_spend (answer.Edits report) of = inr refl
 may_spend (answer.Accepted claimed) of = absurd of
 may_spend (answer.AssertFails at) of = absurd of
 may_spend (answer.Trap at) of = absurd of
@@ -80,6 +90,7 @@ may_spend (answer.BadProgram fault) of = absurd of
 may_spend (answer.BadInput which fault line) of = absurd of
 may_spend answer.TooLarge of = absurd of
 may_spend (answer.BeyondBound at line) of = absurd of
+may_spend (answer.PassingFails line) of = absurd of
 may_spend answer.NoRepair of = inr refl
 may_spend (answer.TooManySets weight most line) of = inr refl
 may_spend (answer.BudgetSpent conflicts line) of = spent
@@ -92,6 +103,7 @@ ends_search : (a : Answer) → IsOfSearch a → IsEndOfSearch (status_of a)
 ends_search (answer.Located report) of = located
 ends_search (answer.Sampled additions weight sets) of = located
 ends_search (answer.Ranked report) of = located
+ends_search (answer.Edits report) of = located
 ends_search (answer.Accepted claimed) of = absurd of
 ends_search (answer.AssertFails at) of = absurd of
 ends_search (answer.Trap at) of = absurd of
@@ -101,6 +113,7 @@ ends_search (answer.BadProgram fault) of = absurd of
 ends_search (answer.BadInput which fault line) of = absurd of
 ends_search answer.TooLarge of = absurd of
 ends_search (answer.BeyondBound at line) of = absurd of
+ends_search (answer.PassingFails line) of = absurd of
 ends_search answer.NoRepair of = no_repair
 ends_search (answer.TooManySets weight most line) of = too_many
 ends_search (answer.BudgetSpent conflicts line) of = spent
@@ -114,6 +127,7 @@ ends_ranking : (a : Answer) → IsOfRanking a → IsEndOfRanking (status_of a)
 ends_ranking (answer.Located report) of = absurd of
 ends_ranking (answer.Sampled additions weight sets) of = absurd of
 ends_ranking (answer.Ranked report) of = ranked
+ends_ranking (answer.Edits report) of = absurd of
 ends_ranking (answer.Accepted claimed) of = absurd of
 ends_ranking (answer.AssertFails at) of = absurd of
 ends_ranking (answer.Trap at) of = absurd of
@@ -123,6 +137,7 @@ ends_ranking (answer.BadProgram fault) of = absurd of
 ends_ranking (answer.BadInput which fault line) of = absurd of
 ends_ranking answer.TooLarge of = absurd of
 ends_ranking (answer.BeyondBound at line) of = absurd of
+ends_ranking (answer.PassingFails line) of = absurd of
 ends_ranking answer.NoRepair of = absurd of
 ends_ranking (answer.TooManySets weight most line) of = too_many_at
 ends_ranking (answer.BudgetSpent conflicts line) of = spent_at
@@ -142,7 +157,7 @@ agree_ends runs a due (runs_differ bytes others is are shown) =
     subst (λ a. IsEndFor due (status_of a)) (sym is)
     (subst (λ due. IsEndFor due status.Ok) (sym are) (inl refl))
 
--- with one of the statuses that are wanted, or a fault or want of memory in its place
+-- with one of the statuses that are wanted, or a fault or out of memory in its place
 module _ (c : Call) (wanted : Status → Type 0) (result : Status) where
   shown_ends : (a : Answer) (s : Ends c a result) → (result ≡ status_of a → EndsWith c wanted result) →
       EndsWith c wanted result
@@ -173,33 +188,43 @@ texts_same y x same =
     ap (λ (w : List ℕ). record { program = x.program; input = x.input; weights = w }) three in
     first ∙ second ∙ third
 
-module _ (c : Call) (result : Status) (files : List Named) (mid : Outside)
+repair_texts_same : (y x : RepairTexts) → repair_jobs.parts_of y ≡ repair_jobs.parts_of x → y ≡ x
+repair_texts_same y x same =
+    let one : y.program ≡ x.program = ap (λ (ts : List (List ℕ)). get_or ts 0 []) same in
+    let two : y.failing ≡ x.failing = ap (λ (ts : List (List ℕ)). get_or ts 1 []) same in
+    let three : y.passing ≡ x.passing = ap (λ (ts : List (List ℕ)). get_or ts 2 []) same in
+    let four : y.weights ≡ x.weights = ap (λ (ts : List (List ℕ)). get_or ts 3 []) same in
+    λ i. record { program = one i; failing = two i; passing = three i; weights = four i }
+
+-- the type of a mode's texts: two with the same parts are one
+module _ {X : Type 0} (parts : X → List (List ℕ)) (alike : (y x : X) → parts y ≡ parts x → y ≡ x)
+    (c : Call) (result : Status) (files : List Named) (mid : Outside)
     (same : c.after.read_faults ≡ mid.read_faults) where
   read_rose : HasReadFault c.before mid → HasReadFault c.before c.after
   read_rose rose = subst (λ n. Rose c.before.read_faults n) (sym same) rose
 
   -- they are read, and their texts come to the answer; or a fault rose
-  told_end : (wanted : Status → Type 0) (row : Texts → Outside → Outside → List Derivation → Answer → Type 0)
-      (x : Texts) (handed : List Derivation) (a : Answer) → TellsAll c.before files (parts_of x) →
+  told_end : (wanted : Status → Type 0) (row : X → Outside → Outside → List Derivation → Answer → Type 0)
+      (x : X) (handed : List Derivation) (a : Answer) → TellsAll c.before files (parts x) →
       ((read : Outside) → OnlyReads c.before read → row x read mid handed a → EndsWith c wanted result) →
-      FilesComeTo files row c.before mid handed a → result ≡ status_of a → EndsWith c wanted result
+      FilesComeTo parts files row c.before mid handed a → result ≡ status_of a → EndsWith c wanted result
   told_end wanted row x handed a tells ends (unread is none) e =
-      let fault = all_answer files (parts_of x) is.which is.error c.before mid a tells is.stops is.answers in
+      let fault = all_answer files (parts x) is.which is.error c.before mid a tells is.stops is.answers in
       read_fault (e ∙ ap status_of fault.0) (read_rose fault.1)
   told_end wanted row x handed a tells ends (by_texts y read are holds) e =
-      ends read (all_only files (parts_of y) c.before read are)
-      (subst (λ x. row x read mid handed a) (texts_same y x
-      (all_read files (parts_of x) (parts_of y) c.before c.before read (only_reads_none c.before) tells are))
+      ends read (all_only files (parts y) c.before read are)
+      (subst (λ x. row x read mid handed a) (alike y x
+      (all_read files (parts x) (parts y) c.before c.before read (only_reads_none c.before) tells are))
       holds)
 
   -- one of them can't be read, or is too long
-  stop_end : (row : Texts → Outside → Outside → List Derivation → Answer → Type 0) (which : File)
+  stop_end : (row : X → Outside → Outside → List Derivation → Answer → Type 0) (which : File)
       (error : ReadFileError) (due a : Answer) (handed : List Derivation) → TellsStop which error c.before
       files →
-      answer_for which error ≡ Some due → FilesComeTo files row c.before mid handed a →
+      answer_for which error ≡ Some due → FilesComeTo parts files row c.before mid handed a →
       result ≡ status_of a → EndsWith c (IsEndFor due) result
   stop_end row which error due a handed told is (by_texts y read are holds) e =
-      absurd (stop_read files which error (parts_of y) c.before c.before read (only_reads_none c.before) told
+      absurd (stop_read files which error (parts y) c.before c.before read (only_reads_none c.before) told
       are)
   stop_end row which error due a handed told is (unread u none) e =
       by (stop_answer files which u.which error u.error c.before mid due a told is u.stops u.answers)
@@ -211,10 +236,10 @@ module _ (c : Call) (result : Status) (files : List Named) (mid : Outside)
       by (inr (failed, rose)) = read_fault (e ∙ ap status_of failed) (read_rose rose)
 
   -- THE ANSWER THAT IS DUE, where the row of a mode agrees with what is due to texts
-  due_end : (row : Texts → Outside → Outside → List Derivation → Answer → Type 0)
-      (due_row : Texts → Answer → Type 0) (due a : Answer) (handed : List Derivation) →
-      ((x : Texts) (read : Outside) → row x read mid handed a → due_row x due → IsEndFor due (status_of a)) →
-      FilesAreDue files due_row c.before due → FilesComeTo files row c.before mid handed a →
+  due_end : (row : X → Outside → Outside → List Derivation → Answer → Type 0)
+      (due_row : X → Answer → Type 0) (due a : Answer) (handed : List Derivation) →
+      ((x : X) (read : Outside) → row x read mid handed a → due_row x due → IsEndFor due (status_of a)) →
+      FilesAreDue parts files due_row c.before due → FilesComeTo parts files row c.before mid handed a →
       result ≡ status_of a → EndsWith c (IsEndFor due) result
   due_end row due_row due a handed agree (of_texts x tells is) comes e =
       told_end (IsEndFor due) row x handed a tells
@@ -228,15 +253,14 @@ once_end : (source : List ℕ) (first : Program → Option Answer) (a due : Answ
     IsEndFor due (status_of a)
 once_end source first a due same = subst (λ due. IsEndFor due (status_of a)) same (own_end a)
 
-check_due : (j : CheckJob) (x : Texts) (before after : Outside) (handed : List Derivation) (a due : Answer) →
-    check.IsAnswer j x before after handed a → IsAtOnce x.program (case_answer j.bounds x) due →
-    IsEndFor due (status_of a)
-check_due j x before after handed a due (check.IsAnswer.at_once is none same) once =
-    once_end x.program (case_answer j.bounds x) a due
-    (one_at_once x.program (case_answer j.bounds x) (case_of_meaning j.bounds x) a due is once)
-check_due j x before after handed a due (check.IsAnswer.by_certificate p spells none judged) once =
-    absurd (none_or_one x.program (case_answer j.bounds x) (case_of_meaning j.bounds x) p due spells none
-    once)
+check_due : (of : Subject) (j : CheckJob) (x : Texts) (before after : Outside) (handed : List Derivation)
+    (a due : Answer) → IsOfMeaning (of.answer_at_once x) → check.IsAnswer of j x before after handed a →
+    IsAtOnce x.program (of.answer_at_once x) due → IsEndFor due (status_of a)
+check_due of j x before after handed a due one (check.IsAnswer.at_once is none same) once =
+    once_end x.program (of.answer_at_once x) a due
+    (one_at_once x.program (of.answer_at_once x) one a due is once)
+check_due of j x before after handed a due one (check.IsAnswer.by_certificate p spells none judged) once =
+    absurd (none_or_one x.program (of.answer_at_once x) one p due spells none once)
 
 request_due : (c : Call) (r : Request) (due a : Answer) (result : Status) (mid : Outside)
     (handed : List Derivation) → IsDue r c.before due → c.after.read_faults ≡ mid.read_faults →
@@ -248,29 +272,49 @@ request_due c (request.Sample n) due a result mid handed (other, is) same (uncha
     ends_as c (IsEndFor due) result (status_of a)
     (agree_ends _ a due (one_answer (sample_job n) (sample_texts n) handed other a due holds is)) e
 request_due c (request.Localise j) due a result mid handed is same comes e =
-    due_end c result (files_in (request.Localise j)) mid same (Unaided (localise.IsAnswer j))
+    due_end parts_of texts_same c result (files_in (request.Localise j)) mid same
+    (Unaided (localise.IsAnswer j))
     (λ x a. (others : List Derivation) × localise.IsAnswer j x others a) due a handed
     (λ x read holds other. agree_ends _ a due (one_answer j x handed other.0 a due holds.1 other.1)) is comes
     e
 request_due c (request.Check j) due a result mid handed is same comes e =
-    due_end c result (files_in (request.Check j)) mid same (check.IsAnswer j)
+    due_end parts_of texts_same c result (files_in (request.Check j)) mid same (check.IsAnswer (one_run j) j)
     (λ x a. IsAtOnce x.program (case_answer j.bounds x) a) due a handed
-    (λ x read holds once. check_due j x read mid handed a due holds once) is comes e
+    (λ x read holds once. check_due (one_run j) j x read mid handed a due (case_of_meaning j.bounds x) holds
+    once) is comes e
+request_due c (request.CheckAll j) due a result mid handed is same comes e =
+    due_end parts_of texts_same c result (files_in (request.CheckAll j)) mid same
+    (check.IsAnswer (all_runs j) j)
+    (λ x a. IsAtOnce x.program (all_answer_at_once j.bounds x) a) due a handed
+    (λ x read holds once. check_due (all_runs j) j x read mid handed a due (all_of_meaning j.bounds x) holds
+    once) is comes e
+request_due c (request.LocaliseAll j) due a result mid handed is same comes e =
+    due_end parts_of texts_same c result (files_in (request.LocaliseAll j)) mid same
+    (Unaided (several.IsAnswer j))
+    (λ x a. (others : List Derivation) × several.IsAnswer j x others a) due a handed
+    (λ x read holds other. agree_ends _ a due (one_answer_of_all j x handed other.0 a due holds.1 other.1)) is
+    comes e
 request_due c (request.Run j) due a result mid handed is same comes e =
-    due_end c result (files_in (request.Run j)) mid same (Unaided (RunsTo j))
+    due_end parts_of texts_same c result (files_in (request.Run j)) mid same (Unaided (RunsTo j))
     (λ x a. IsAtOnce x.program (run_answer j.bounds x) a) due a handed
     (λ x read holds once. once_end x.program (run_answer j.bounds x) a due
     (one_at_once x.program (run_answer j.bounds x) (run_of_meaning j.bounds x) a due holds.1.0 once)) is comes
     e
 request_due c (request.Places j) due a result mid handed is same comes e =
-    due_end c result (files_in (request.Places j)) mid same (Unaided (places.IsAnswer j))
+    due_end parts_of texts_same c result (files_in (request.Places j)) mid same (Unaided (places.IsAnswer j))
     (λ x a. (others : List Derivation) × places.IsAnswer j x others a) due a handed
     (λ x read holds other. agree_ends _ a due (one_place_answer j x handed other.0 a due holds.1 other.1)) is
     comes e
 request_due c (request.Rank j) due a result mid handed is same comes e =
-    due_end c result (files_in (request.Rank j)) mid same (Unaided (rank.IsAnswer j))
+    due_end parts_of texts_same c result (files_in (request.Rank j)) mid same (Unaided (rank.IsAnswer j))
     (λ x a. (others : List Derivation) × rank.IsAnswer j x others a) due a handed
     (λ x read holds other. agree_ends _ a due (one_ranking j x handed other.0 a due holds.1 other.1)) is
+    comes e
+request_due c (request.Repair j) due a result mid handed is same comes e =
+    due_end repair_jobs.parts_of repair_texts_same c result (files_in (request.Repair j)) mid same
+    (Unaided (repair.IsAnswer j)) (λ x a. (others : List Derivation) × repair.IsAnswer j x others a) due a
+    handed
+    (λ x read holds other. agree_ends _ a due (one_repair_answer j x handed other.0 a due holds.1 other.1)) is
     comes e
 
 -- SEARCHES of runs that fail
@@ -285,24 +329,39 @@ request_failing : (c : Call) (r : Request) (a : Answer) (result : Status) (mid :
     EndsWith c (IsEndOf r) result
 request_failing c request.Refused a result mid handed may never same comes e = absurd never
 request_failing c (request.Check j) a result mid handed may never same comes e = absurd never
+request_failing c (request.CheckAll j) a result mid handed may never same comes e = absurd never
 request_failing c (request.Run j) a result mid handed may never same comes e = absurd never
 request_failing c (request.Sample n) a result mid handed few told same (unchanged, holds) e =
     ends_as c IsEndOfSample result (status_of a) (end_of_sample n a (sample_answered n few handed a holds)) e
 request_failing c (request.Localise j) a result mid handed may t same comes e =
-    told_end c result (files_in (request.Localise j)) mid same IsEndOfSearch (Unaided (localise.IsAnswer j))
+    told_end parts_of texts_same c result (files_in (request.Localise j)) mid same
+    IsEndOfSearch (Unaided (localise.IsAnswer j))
     t.texts handed a t.told
     (λ read only holds. ends_as c IsEndOfSearch result (status_of a) (ends_search a
     (answer_of_search j t.texts t.program t.spelled t.undecided handed a holds.1)) e) comes e
 request_failing c (request.Places j) a result mid handed may t same comes e =
-    told_end c result (files_in (request.Places j)) mid same IsEndOfSearch (Unaided (places.IsAnswer j))
+    told_end parts_of texts_same c result (files_in (request.Places j)) mid same
+    IsEndOfSearch (Unaided (places.IsAnswer j))
     t.texts handed a t.told
     (λ read only holds. ends_as c IsEndOfSearch result (status_of a) (ends_search a
     (place_answer_of_search j t.texts t.program t.spelled t.undecided handed a holds.1)) e) comes e
+request_failing c (request.LocaliseAll j) a result mid handed may t same comes e =
+    told_end parts_of texts_same c result (files_in (request.LocaliseAll j)) mid same
+    IsEndOfSearch (Unaided (several.IsAnswer j))
+    t.texts handed a t.told
+    (λ read only holds. ends_as c IsEndOfSearch result (status_of a) (ends_search a
+    (all_answer_of_search j t.texts t.program t.spelled t.undecided handed a holds.1)) e) comes e
 request_failing c (request.Rank j) a result mid handed may t same comes e =
-    told_end c result (files_in (request.Rank j)) mid same IsEndOfRanking (Unaided (rank.IsAnswer j))
+    told_end parts_of texts_same c result (files_in (request.Rank j)) mid same
+    IsEndOfRanking (Unaided (rank.IsAnswer j))
     t.texts handed a t.told
     (λ read only holds. ends_as c IsEndOfRanking result (status_of a) (ends_ranking a
     (ranking_of_search j t.texts t.program t.spelled t.undecided handed a holds.1)) e) comes e
+request_failing c (request.Repair j) a result mid handed may t same comes e =
+    told_end repair_jobs.parts_of repair_texts_same c result (files_in (request.Repair j)) mid same
+    IsEndOfSearch (Unaided (repair.IsAnswer j)) t.texts handed a t.told
+    (λ read only holds. ends_as c IsEndOfSearch result (status_of a) (ends_search a
+    (repair_answer_of_search j t.texts t.program t.spelled t.undecided handed a holds.1)) e) comes e
 
 -- A CHECK
 
@@ -313,14 +372,18 @@ request_checking : (c : Call) (r : Request) (a : Answer) (result : Status) (mid 
 request_checking c request.Refused a result mid handed name told never held same comes e = absurd never
 request_checking c (request.Sample n) a result mid handed name told never held same comes e = absurd never
 request_checking c (request.Localise j) a result mid handed name told never held same comes e = absurd never
+request_checking c (request.LocaliseAll j) a result mid handed name told never held same comes e =
+    absurd never
 request_checking c (request.Run j) a result mid handed name told never held same comes e = absurd never
 request_checking c (request.Places j) a result mid handed name told never held same comes e = absurd never
 request_checking c (request.Rank j) a result mid handed name told never held same comes e = absurd never
+request_checking c (request.Repair j) a result mid handed name told never held same comes e = absurd never
 request_checking c (request.Check j) a result mid handed name told (is, t) held same comes e =
-    told_end c result (files_in (request.Check j)) mid same (IsEndOfCheck told) (check.IsAnswer j) t.texts
+    told_end parts_of texts_same c result (files_in (request.Check j)) mid same (IsEndOfCheck told)
+    (check.IsAnswer (one_run j) j) t.texts
     handed a t.told
-    (λ read only holds. by read only (check_told j t.texts t.program t.spelled t.undecided told read mid
-    handed a
+    (λ read only holds. by read only (check_told (one_run j) j t.texts (case_of_meaning j.bounds t.texts)
+    t.program t.spelled t.undecided told read mid handed a
     (ap (λ (all : Word → Option (Option (List ℕ))). all j.cert) only.held
     ∙ subst (λ n. c.before.held n ≡ Some told) is held) holds)) comes e
   where
@@ -328,7 +391,22 @@ request_checking c (request.Check j) a result mid handed name told (is, t) held 
         EndsWith c (IsEndOfCheck told) result
     by read only (inl end) = ends_as c (IsEndOfCheck told) result (status_of a) end e
     by read only (inr (failed, rose)) = read_fault (e ∙ failed)
-        (read_rose c result (files_in (request.Check j)) mid same
+        (read_rose parts_of texts_same c result (files_in (request.Check j)) mid same
+        (rose_since c.before.read_faults read.read_faults mid.read_faults only.no_fall rose))
+request_checking c (request.CheckAll j) a result mid handed name told (is, t) held same comes e =
+    told_end parts_of texts_same c result (files_in (request.CheckAll j)) mid same (IsEndOfCheck told)
+    (check.IsAnswer (all_runs j) j) t.texts
+    handed a t.told
+    (λ read only holds. by read only (check_told (all_runs j) j t.texts (all_of_meaning j.bounds t.texts)
+    t.program t.spelled t.undecided told read mid handed a
+    (ap (λ (all : Word → Option (Option (List ℕ))). all j.cert) only.held
+    ∙ subst (λ n. c.before.held n ≡ Some told) is held) holds)) comes e
+  where
+    by : (read : Outside) → OnlyReads c.before read → EndsCheck told read mid (status_of a) →
+        EndsWith c (IsEndOfCheck told) result
+    by read only (inl end) = ends_as c (IsEndOfCheck told) result (status_of a) end e
+    by read only (inr (failed, rose)) = read_fault (e ∙ failed)
+        (read_rose parts_of texts_same c result (files_in (request.CheckAll j)) mid same
         (rose_since c.before.read_faults read.read_faults mid.read_faults only.no_fall rose))
 
 -- A CALL

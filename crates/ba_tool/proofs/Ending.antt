@@ -25,14 +25,21 @@ use Rattle.ba_steps.specs.declared.step.CertStep.{CertStep}
 use Rattle.ba_tree.specs.Least.{WeightList}
 use Rattle.ba_world.proofs.WholeReads.{only_reads_none, only_reads_on, rose_since}
 use Rattle.ba_world.specs.World.{HasPrintShortage, HasWriteFault, OnlyPrints, OnlyReads, OnlyWrites, Outside, Prints, PrintsPrefix}
+use Rattle.mode_all.proofs.Leaving.{stops_begin as all_stops_begin}
+use Rattle.mode_all.specs.Answers as several
+use Rattle.mode_all.specs.Jobs as all_jobs
+use Rattle.mode_all.specs.declared.jobs.AllJob.{AllJob}
+use Rattle.mode_check.specs.Checks.{Subject, all_runs, one_run}
 use Rattle.mode_check.specs.Checks as check
 use Rattle.mode_check.specs.declared.jobs.CheckJob.{CheckJob}
-use Rattle.mode_localise.proofs.Leaving.{MayBegin, nothing_begun, stops_begin}
+use Rattle.ba_certified.proofs.Leaving.{MayBegin, nothing_begun}
+use Rattle.mode_localise.proofs.Leaving.{stops_begin}
 use Rattle.mode_localise.specs.Answers.{IsAnswer}
-use Rattle.mode_localise.specs.Certifying.{Certifies}
+use Rattle.ba_certified.specs.Certifying.{Certifies}
 use Rattle.mode_localise.specs.Jobs.{files_of, head_by, sample_job, sample_texts}
 use Rattle.mode_localise.specs.declared.jobs.LocaliseJob.{LocaliseJob}
-use Rattle.ba_tool.specs.Calls.{Answered, AnsweredInPart, Call, Comes, ComesTo, IsShown, RequestComesTo, Says, Stops, StopsBehind, WritesOnly, behind, in_reading, in_sample}
+use Rattle.mode_repair.specs.Jobs as repair_jobs
+use Rattle.ba_tool.specs.Calls.{Answered, AnsweredInPart, Call, Comes, ComesTo, IsShown, RequestComesTo, Says, Stops, StopsBehind, WritesOnly, behind, in_reading, in_repair, in_sample}
 use Rattle.ba_tool.specs.Requests.{cert_of, files_in, head_in, request_of}
 use Rattle.ba_tool.specs.declared.requests.Request.{Request}
 use Rattle.ba_tool.specs.declared.requests.Request.TheVariants as request
@@ -42,15 +49,17 @@ said : (c : Call) (a : Answer) → Answered c a → Says c (status_of a)
 said c (answer.Located report) h = inl (report, h)
 said c (answer.Sampled additions weight sets) h = inr (inl (additions, weight, sets, h))
 said c (answer.Ranked report) h = inr (inr (inl (report, h)))
-said c (answer.Accepted claimed) h = inr (inr (inr (inl (claimed, h))))
-said c (answer.AssertFails at) h = inr (inr (inr (inr (inl (at, h)))))
-said c (answer.Trap at) h = inr (inr (inr (inr (inr (at, h)))))
+said c (answer.Edits report) h = inr (inr (inr (inl (report, h))))
+said c (answer.Accepted claimed) h = inr (inr (inr (inr (inl (claimed, h)))))
+said c (answer.AssertFails at) h = inr (inr (inr (inr (inr (inl (at, h))))))
+said c (answer.Trap at) h = inr (inr (inr (inr (inr (inr (at, h))))))
 said c (answer.NotFailing line) h = (line, h)
 said c answer.BadWords h = h
 said c (answer.BadProgram fault) h = (fault, h)
 said c (answer.BadInput which fault line) h = (which, fault, line, h)
 said c answer.TooLarge h = h
 said c (answer.BeyondBound at line) h = (at, line, h)
+said c (answer.PassingFails line) h = (line, h)
 said c answer.NoRepair h = h
 said c (answer.TooManySets weight most line) h = (weight, most, line, h)
 said c (answer.BudgetSpent conflicts line) h = (conflicts, line, h)
@@ -80,10 +89,22 @@ answer_formed j x handed a (at_once is none) = subst IsFirstFormed (sym none) tt
 answer_formed j x handed a (by_search p spells none found) = subst IsFirstFormed (sym found.handed_is)
     (shows_formed _ _ j.conflicts j.sets found.derivation found.verdict found.shows)
 
+all_answer_formed : (j : AllJob) (x : Texts) (handed : List Derivation) (a : Answer) →
+    several.IsAnswer j x handed a → IsFirstFormed handed
+all_answer_formed j x handed a (at_once is none) = subst IsFirstFormed (sym none) tt
+all_answer_formed j x handed a (by_search p spells none found) = subst IsFirstFormed (sym found.handed_is)
+    (shows_formed _ _ j.conflicts j.sets found.derivation found.verdict found.shows)
+
 localise_formed : (j : LocaliseJob) (before read : Outside) (handed : List Derivation) (a : Answer) →
-    FilesComeTo (files_of j) (Unaided (IsAnswer j)) before read handed a → IsFirstFormed handed
+    FilesComeTo parts_of (files_of j) (Unaided (IsAnswer j)) before read handed a → IsFirstFormed handed
 localise_formed j before read handed a (unread is none) = subst IsFirstFormed (sym none) tt
 localise_formed j before read handed a (by_texts x opened are holds) = answer_formed j x handed a holds.1
+
+all_formed : (j : AllJob) (before read : Outside) (handed : List Derivation) (a : Answer) →
+    FilesComeTo parts_of (all_jobs.files_of j) (Unaided (several.IsAnswer j)) before read handed a →
+    IsFirstFormed handed
+all_formed j before read handed a (unread is none) = subst IsFirstFormed (sym none) tt
+all_formed j before read handed a (by_texts x opened are holds) = all_answer_formed j x handed a holds.1
 
 -- WHAT IS WRITTEN before anything is printed
 
@@ -111,12 +132,17 @@ comes_begin : (r : Request) (before read after : Outside) (handed : List Derivat
     MayBegin (head_in r) (cert_of r) read after
 comes_begin (request.Localise j) before read after handed a comes certifies =
     may_begin (head_by j) j.cert handed read after (localise_formed j before read handed a comes) certifies
+comes_begin (request.LocaliseAll j) before read after handed a comes certifies =
+    may_begin (all_jobs.head_by j) j.cert handed read after (all_formed j before read handed a comes)
+    certifies
 comes_begin request.Refused before read after handed a comes same = same
 comes_begin (request.Sample additions) before read after handed a comes same = same
 comes_begin (request.Check j) before read after handed a comes same = same
+comes_begin (request.CheckAll j) before read after handed a comes same = same
 comes_begin (request.Run j) before read after handed a comes same = same
 comes_begin (request.Places j) before read after handed a comes same = same
 comes_begin (request.Rank j) before read after handed a comes same = same
+comes_begin (request.Repair j) before read after handed a comes same = same
 
 -- WHAT A REQUEST PASSED: it read, and may have begun the certificate, if one is named
 record Passes (h : CertHead) (cert : Option Word) (before after : Outside) : Type 0 where
@@ -135,18 +161,22 @@ comes_passes r before after t u a c = record {
 only_read : (before after : Outside) → OnlyReads before after → Passes no_head None before after
 only_read before after reads = record { read = after; reads = reads; may = refl }
 
-check_reads : (j : CheckJob) (x : Texts) (before after : Outside) (t u : Told) →
-    check.Stops j x before after t u → OnlyReads before after
-check_reads j x before after t u (check.at_once same hands) =
+check_reads : (of : Subject) (j : CheckJob) (x : Texts) (before after : Outside) (t u : Told) →
+    check.Stops of j x before after t u → OnlyReads before after
+check_reads of j x before after t u (check.at_once same hands) =
     subst (OnlyReads before) (sym same) (only_reads_none before)
-check_reads j x before after t u (check.in_check p spells none reads may logs) = reads
+check_reads of j x before after t u (check.in_check p spells none reads may logs) = reads
 
 behind_passes : (r : Request) (x : Texts) (before read after : Outside) (t u : Told) → OnlyReads before read →
     StopsBehind r x read after t u → Passes (head_in r) (cert_of r) before after
 behind_passes (request.Localise j) x before read after t u reads s =
     record { read = read; reads = reads; may = stops_begin j x read after t u s }
-behind_passes (request.Check j) x before read after t u reads s =
-    only_read before after (only_reads_on before read after reads (check_reads j x read after t u s))
+behind_passes (request.LocaliseAll j) x before read after t u reads s =
+    record { read = read; reads = reads; may = all_stops_begin j x read after t u s }
+behind_passes (request.Check j) x before read after t u reads s = only_read before after
+    (only_reads_on before read after reads (check_reads (one_run j) j x read after t u s))
+behind_passes (request.CheckAll j) x before read after t u reads s = only_read before after
+    (only_reads_on before read after reads (check_reads (all_runs j) j x read after t u s))
 behind_passes (request.Places j) x before read after t u reads s =
     record { read = read; reads = reads; may = s.0 }
 behind_passes (request.Rank j) x before read after t u reads s =
@@ -154,6 +184,7 @@ behind_passes (request.Rank j) x before read after t u reads s =
 behind_passes request.Refused x before read after t u reads never = absurd never
 behind_passes (request.Sample additions) x before read after t u reads never = absurd never
 behind_passes (request.Run j) x before read after t u reads never = absurd never
+behind_passes (request.Repair j) x before read after t u reads never = absurd never
 
 read_passes : (r : Request) (before after : Outside) → OnlyReads before after →
     Passes (head_in r) (cert_of r) before after
@@ -172,6 +203,8 @@ stops_passes r before after t u (in_sample additions is s) =
       reads = only_reads_none before;
       may = stops_begin (sample_job additions) (sample_texts additions) before after t u s;
     })
+stops_passes r before after t u (in_repair j is x files s) =
+    read_passes r before after (all_only (files_in r) (repair_jobs.parts_of x) before after files)
 stops_passes r before after t u (behind x read files s) =
     behind_passes r x before read after t u (all_only (files_in r) (parts_of x) before read files) s
 

@@ -18,7 +18,7 @@ use std::rt::{Env, Files};
 
 /// The words after the first, which is the program's own name.
 ///
-/// The one error is want of memory.
+/// The only error is out of memory.
 fn without_name(alloc: Global, words: Vec<String>) -> Result<Vec<String>, AllocError>
     ensures { IfOk result (λ others. others.items ≡ drop 1 words.items) }
 {
@@ -28,7 +28,7 @@ fn without_name(alloc: Global, words: Vec<String>) -> Result<Vec<String>, AllocE
 /// The words that the program is called with, without its own name; none where one of them is no
 /// text.
 ///
-/// The one error is want of memory.
+/// The only error is out of memory.
 fn arguments<R: Env + Alloc<A = Global>>(rt: &R) -> Result<Vec<String>, AllocError> {
     match env::args(rt) {
         Ok(words) => without_name(rt.alloc(), words.collect(rt.alloc())?),
@@ -39,7 +39,7 @@ fn arguments<R: Env + Alloc<A = Global>>(rt: &R) -> Result<Vec<String>, AllocErr
 
 /// The words as texts that are lent.
 ///
-/// The one error is want of memory.
+/// The only error is out of memory.
 fn texts(alloc: Global, words: &[String]) -> Result<Vec<&str>, AllocError>
     ensures { IfOk result (λ texts. map (λ text. text.now) texts.items
         ≡ map string_bytes words.now) }
@@ -53,7 +53,7 @@ fn texts(alloc: Global, words: &[String]) -> Result<Vec<&str>, AllocError>
 
 /// Calls the program over real files and standard output. That it does is shown by tests alone.
 ///
-/// The one error is want of memory.
+/// The only error is out of memory.
 pub fn run<R: Env + Alloc<A = Global> + Files + Print>(rt: &R) -> Result<Status, AllocError> {
     let alloc = rt.alloc();
     let arguments = arguments(rt)?;

@@ -1,13 +1,15 @@
 //! What the words of a call ask for.
 
 ghost use Rattle.std.specs.Prelude.{◌≡◌, Some, map, IfOk};
-ghost use Rattle.ba_tool.specs.Requests.{request_by, request_of, steady_of};
+ghost use Rattle.ba_tool.specs.Requests.{check_by, request_by, request_of, steady_of};
 
 use ba_commands::{Command, WordsError, read_words};
+use mode_all::AllJob;
 use mode_check::CheckJob;
 use mode_localise::{LocaliseJob, Telling};
 use mode_places::PlacesJob;
 use mode_rank::RankJob;
+use mode_repair::RepairJob;
 use mode_run::RunJob;
 use std::alloc::{AllocError, Global};
 
@@ -22,12 +24,18 @@ pub enum Request<'a> {
     Localise(LocaliseJob<'a>),
     /// They ask for the least sets of places of a program.
     Places(PlacesJob<'a>),
+    /// They ask for the least sets that repair several runs of a program together.
+    LocaliseAll(AllJob<'a>),
     /// They ask to judge a certificate.
     Check(CheckJob<'a>),
+    /// They ask to judge a certificate of several runs together.
+    CheckAll(CheckJob<'a>),
     /// They ask to run a program.
     Run(RunJob<'a>),
     /// They ask to rank the statements of a program over several inputs.
     Rank(RankJob<'a>),
+    /// They ask for the edits that pass.
+    Repair(RepairJob<'a>),
 }
 
 impl Request<'_> {
@@ -38,9 +46,26 @@ impl Request<'_> {
         match self {
             Request::Localise(job) => job.steady,
             Request::Places(job) => job.steady,
+            Request::LocaliseAll(job) => job.steady,
             Request::Rank(job) => job.steady,
-            Request::Refused | Request::Sample(_) | Request::Check(_) | Request::Run(_) => false,
+            Request::Repair(job) => job.steady,
+            Request::Refused
+            | Request::Sample(_)
+            | Request::Check(_)
+            | Request::CheckAll(_)
+            | Request::Run(_) => false,
         }
+    }
+}
+
+/// A check of one run, or of all.
+fn check_by(job: CheckJob, all: bool) -> Request
+    ensures { result ≡ check_by job.entry all }
+{
+    if all {
+        Request::CheckAll(job)
+    } else {
+        Request::Check(job)
     }
 }
 
@@ -59,6 +84,7 @@ fn request_by(command: Command) -> Request
             cert: _,
             runs,
             places: true,
+            all: _,
             steady,
         } => Request::Places(PlacesJob {
             program,
@@ -80,6 +106,30 @@ fn request_by(command: Command) -> Request
             cert,
             runs,
             places: false,
+            all: true,
+            steady,
+        } => Request::LocaliseAll(AllJob {
+            program,
+            inputs: input,
+            weights,
+            bounds,
+            conflicts,
+            sets,
+            cert,
+            runs,
+            steady,
+        }),
+        Command::Localise {
+            program,
+            input,
+            bounds,
+            weights,
+            conflicts,
+            sets,
+            cert,
+            runs,
+            places: false,
+            all: false,
             steady,
         } => Request::Localise(LocaliseJob {
             program,
@@ -109,15 +159,19 @@ fn request_by(command: Command) -> Request
             weights,
             conflicts,
             sets,
-        } => Request::Check(CheckJob {
-            program,
-            input,
-            cert,
-            weights,
-            bounds,
-            conflicts,
-            sets,
-        }),
+            all,
+        } => check_by(
+            CheckJob {
+                program,
+                input,
+                cert,
+                weights,
+                bounds,
+                conflicts,
+                sets,
+            },
+            all,
+        ),
         Command::Rank {
             program,
             inputs,
@@ -135,13 +189,32 @@ fn request_by(command: Command) -> Request
             sets,
             steady,
         }),
+        Command::Repair {
+            program,
+            failing,
+            passing,
+            bounds,
+            weights,
+            conflicts,
+            sets,
+            steady,
+        } => Request::Repair(RepairJob {
+            program,
+            failing,
+            passing,
+            weights,
+            bounds,
+            conflicts,
+            sets,
+            steady,
+        }),
         Command::Sample { additions } => Request::Sample(additions),
     }
 }
 
 /// What the words ask for.
 ///
-/// The one error is want of memory.
+/// The only error is out of memory.
 pub fn read_request<'a>(alloc: Global, words: &'a [&str]) -> Result<Request<'a>, AllocError>
     ensures { IfOk result (λ request. request ≡ request_of (map (λ word. word.now) words.now)) }
 {

@@ -7,15 +7,15 @@ use Rattle.ba_answers.specs.declared.answers.Answer.TheVariants as answer
 use Rattle.ba_answers.specs.declared.file.File.TheVariants as file
 use Rattle.ba_answers.specs.declared.status.Status.{Status}
 use Rattle.ba_answers.specs.declared.status.Status.TheVariants as status
-use Rattle.ba_cases.specs.AtOnce.{case_answer}
+use Rattle.ba_cases.specs.AtOnce.{weights_of}
 use Rattle.ba_cases.specs.declared.texts.Texts.{Texts}
-use Rattle.ba_cases.proofs.OneAnswer.{case_of_meaning, none_or_one}
+use Rattle.ba_cases.proofs.OneAnswer.{IsOfMeaning, none_or_one}
 use Rattle.ba_derivations.specs.Handing.{Derivation}
 use Rattle.ba_tree.specs.declared.tree.Program.{Program}
 use Rattle.ba_tree_laws.specs.Spelling.{Spells}
 use Rattle.ba_world.specs.World.{HasReadFault, Outside}
 use Rattle.mode_check.specs.Certificates.{CertificateComesTo, Checking}
-use Rattle.mode_check.specs.Checks.{IsAnswer, IsEndOfCheck, accepted, by_certificate, checking, not_there, refused, too_long}
+use Rattle.mode_check.specs.Checks.{IsAnswer, IsEndOfCheck, Subject, accepted, by_certificate, checking, not_there, refused, too_long}
 use Rattle.mode_check.specs.Checks as checks
 use Rattle.mode_check.specs.declared.jobs.CheckJob.{CheckJob}
 
@@ -81,13 +81,18 @@ module _ (told : Option (List ℕ)) (j : Checking) (before after : Outside)
   certificate_ends (answer.Unreadable file.Program) is = absurd is
   certificate_ends (answer.Unreadable file.Input) is = absurd is
   certificate_ends (answer.Unreadable file.Inputs) is = absurd is
+  certificate_ends (answer.Unreadable file.Failing) is = absurd is
+  certificate_ends (answer.Unreadable file.Passing) is = absurd is
   certificate_ends (answer.Unreadable file.Weights) is = absurd is
   certificate_ends (answer.TooLong file.Program) is = absurd is
   certificate_ends (answer.TooLong file.Input) is = absurd is
   certificate_ends (answer.TooLong file.Inputs) is = absurd is
+  certificate_ends (answer.TooLong file.Failing) is = absurd is
+  certificate_ends (answer.TooLong file.Passing) is = absurd is
   certificate_ends (answer.TooLong file.Weights) is = absurd is
   certificate_ends (answer.Located bytes) is = absurd is
   certificate_ends (answer.Ranked bytes) is = absurd is
+  certificate_ends (answer.Edits bytes) is = absurd is
   certificate_ends (answer.Sampled additions weight sets) is = absurd is
   certificate_ends (answer.AssertFails at) is = absurd is
   certificate_ends (answer.Trap at) is = absurd is
@@ -97,19 +102,20 @@ module _ (told : Option (List ℕ)) (j : Checking) (before after : Outside)
   certificate_ends (answer.BadInput which fault line) is = absurd is
   certificate_ends answer.TooLarge is = absurd is
   certificate_ends (answer.BeyondBound at line) is = absurd is
+  certificate_ends (answer.PassingFails line) is = absurd is
   certificate_ends answer.NoRepair is = absurd is
   certificate_ends (answer.TooManySets weight most line) is = absurd is
   certificate_ends (answer.BudgetSpent conflicts line) is = absurd is
   certificate_ends (answer.BadWeights line) is = absurd is
 
 -- if the program of the texts has no answer at once, its check ends so
-module _ (j : CheckJob) (x : Texts) (p : Program) (spells : Spells x.program p)
-    (undecided : case_answer j.bounds x p ≡ None) where
+module _ (s : Subject) (j : CheckJob) (x : Texts) (one : IsOfMeaning (s.answer_at_once x)) (p : Program)
+    (spells : Spells x.program p) (undecided : s.answer_at_once x p ≡ None) where
   pub check_told : (told : Option (List ℕ)) (before after : Outside) (handed : List Derivation) (a : Answer) →
-      before.held j.cert ≡ Some told → IsAnswer j x before after handed a →
+      before.held j.cert ≡ Some told → IsAnswer s j x before after handed a →
       EndsCheck told before after (status_of a)
   check_told told before after handed a held (checks.IsAnswer.at_once is none same) =
-      absurd (none_or_one x.program (case_answer j.bounds x) (case_of_meaning j.bounds x) p a spells undecided
-      is)
+      absurd (none_or_one x.program (s.answer_at_once x) one p a spells undecided is)
   check_told told before after handed a held (by_certificate q spelled none checked) =
-      certificate_ends told (checking j x q checked.over) before after held a checked.comes
+      certificate_ends told (checking j (weights_of q x) (s.judge x q) checked.over) before after held a
+      checked.comes

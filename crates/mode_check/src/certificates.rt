@@ -1,6 +1,6 @@
 //! The certificate of a check, read in pieces.
 
-ghost use Rattle.std.specs.Prelude.{◌≡◌, ◌≤◌, ◌+◌, [], true, IfOk, IfErr};
+ghost use Rattle.std.specs.Prelude.{◌≡◌, ◌≤◌, ◌+◌, [], true, All, IfOk, IfErr};
 ghost use Rattle.ba_check.specs.Answers.{confirmed_of};
 ghost use Rattle.ba_check.specs.Readers.{seen};
 ghost use Rattle.ba_check.specs.Readings.{HasRead};
@@ -8,24 +8,29 @@ ghost use Rattle.ba_derivations.specs.Derivations.{Verdict};
 ghost use Rattle.ba_derivations.specs.Encodings.{IsFaithful};
 ghost use Rattle.ba_world.specs.Read.{piece_size};
 ghost use Rattle.ba_world.specs.World.{OnlyReads, Outside};
+ghost use Rattle.ba_cases.specs.AllCases.{IsCaseOfAll};
 ghost use Rattle.ba_cases.specs.Cases.{IsCaseOf};
 ghost use Rattle.ba_cases.specs.Reading.{AreShort};
 ghost use Rattle.mode_check.specs.Certificates.{CertificateComesTo, IsFed, IsUnfed, Checking, claim_of, unfed_answer};
 ghost use Rattle.ba_answers.specs.Limits.{certificate_limit};
 ghost use Rattle.ba_files.specs.Files.{GivesAtMost};
-ghost use Rattle.ba_tree.specs.Least.{AreWeightsOf};
+ghost use Rattle.ba_checker.specs.Facts.{AreSelectors, IsStart};
+ghost use Rattle.ba_encode.specs.Softs.{softs_of};
+ghost use Rattle.ba_tree.specs.Least.{AreWeightsOf, WeightList};
 ghost use Rattle.ba_tree.specs.Run.{are_bounds, fits};
-ghost use Rattle.mode_check.specs.Checks.{TextsEnd};
+ghost use Rattle.mode_check.specs.Checks.{FormulaEnds, TextsEnd, all_runs, one_run};
 
 use crate::jobs::CheckJob;
+use ba_all::JudgeOfAll;
 use ba_answers::answers::{Answer, Claim};
 use ba_answers::file::{CERTIFICATE_LIMIT, File};
-use ba_cases::{Case, Texts, read_case};
+use ba_cases::{Case, CaseOfAll, Texts, read_case, read_case_of_all};
 use ba_check::{CheckError, Confirm, Confirmed, Settings};
-use ba_encode::softs_of;
-use ba_formula::formula_of;
+use ba_encode::{Encoded, softs_of};
+use ba_formula::{formula_of, formula_of_all};
+use ba_judge::ProgramJudge;
 use ba_search::SearchError;
-use ba_steps::StepSink;
+use ba_steps::{RunJudge, StepSink};
 use ba_world::{ReadFileError, World, WorldError};
 use std::alloc::{AllocError, Global};
 
@@ -66,13 +71,17 @@ const BUFFER: usize = 4096;
 
 /// Gives the file of this name to a reader of certificates that has read nothing. It stops at the end, or
 /// with the piece in which the first refused line ends.
-fn feed_file<W: World>(world: &mut W, name: &str, confirm: &mut Confirm) -> Result<(), Unfed>
+fn feed_file<W: World, J: RunJudge + Drop>(
+    world: &mut W,
+    name: &str,
+    confirm: &mut Confirm<J>,
+) -> Result<(), Unfed>
     ensures fed { (j : Checking) → j.name ≡ name.now
-        → HasRead j.head j.problem [] (seen confirm.old)
+        → HasRead j.head j.problem [] (seen J.accepts confirm.old)
         → IfOk result
-        (λ _. IsFed j (W.outside world.old) (W.outside world.new) (seen confirm.new)) }
+        (λ _. IsFed j (W.outside world.old) (W.outside world.new) (seen J.accepts confirm.new)) }
     ensures unfed { (j : Checking) → j.name ≡ name.now
-        → HasRead j.head j.problem [] (seen confirm.old)
+        → HasRead j.head j.problem [] (seen J.accepts confirm.old)
         → IfErr result (λ unfed. IsUnfed j unfed (W.outside world.old) (W.outside world.new)) }
     ensures bounded { (W.outside world.new).given
         ≤ (W.outside world.old).given + (certificate_limit + piece_size) }
@@ -124,8 +133,8 @@ fn claim_of(confirmed: &Confirmed) -> Claim
 /// The answer of a certificate that was read to its end.
 ///
 /// The only error is out of memory.
-fn read_answer(confirm: Confirm) -> Result<Answer, AllocError>
-    ensures { (j : Checking) (old new : Outside) → IsFed j old new (seen confirm.entry)
+fn read_answer<J: RunJudge + Drop>(confirm: Confirm<J>) -> Result<Answer, AllocError>
+    ensures { (j : Checking) (old new : Outside) → IsFed j old new (seen J.accepts confirm)
         → IsFaithful j.problem.formula j.problem.softs j.weights j.problem.good
         → IfOk result (λ answer. CertificateComesTo j answer old new) }
 {
@@ -139,13 +148,13 @@ fn read_answer(confirm: Confirm) -> Result<Answer, AllocError>
 /// The answer of the certificate in the file of this name, by a reader that has read nothing.
 ///
 /// The only error is out of memory.
-fn file_answer<W: World>(
+fn file_answer<W: World, J: RunJudge + Drop>(
     world: &mut W,
     name: &str,
-    mut confirm: Confirm,
+    mut confirm: Confirm<J>,
 ) -> Result<Answer, AllocError>
     ensures answer { (j : Checking) → j.name ≡ name.now
-        → HasRead j.head j.problem [] (seen confirm.entry)
+        → HasRead j.head j.problem [] (seen J.accepts confirm)
         → IsFaithful j.problem.formula j.problem.softs j.weights j.problem.good
         → IfOk result (λ answer. CertificateComesTo j answer
         (W.outside world.old) (W.outside world.new)) }
@@ -162,9 +171,44 @@ fn file_answer<W: World>(
     }
 }
 
-/// The answer of a job's certificate on a case. The formula of the case is made and handed to `steps`,
-/// without a step. Then the file is read in pieces and checked over this formula, up to its first refused
-/// line.
+/// The answer of a job's certificate over a formula, which is handed to `steps` without a step. Then the file
+/// is read in pieces and checked, up to its first refused line.
+///
+/// `SinkFailed` comes only if the faults of `steps` rose; `Memory` if memory runs out.
+fn check_over<W, D, J>(
+    alloc: Global,
+    world: &mut W,
+    job: &CheckJob,
+    encoded: &Encoded,
+    judge: J,
+    steps: &mut D,
+) -> Result<Answer, SearchError>
+where
+    W: World,
+    D: StepSink + Drop,
+    J: RunJudge + Drop,
+    requires clauses { IsStart encoded.now.formula (softs_of encoded.now.groups) }
+    requires selectors { AreSelectors encoded.now.formula.variables (softs_of encoded.now.groups) }
+    ensures ends { (weights : WeightList)
+        → IsFaithful encoded.now.formula (softs_of encoded.now.groups) weights (J.accepts judge)
+        → FormulaEnds job.now weights (J.accepts judge)
+        (W.outside world.old) (W.outside world.new) (D.told steps.old) (D.told steps.new) result }
+    ensures bounded { GivesAtMost (certificate_limit + piece_size)
+        (W.outside world.old) (W.outside world.new) }
+    ensures stays { OnlyReads (W.outside world.old) (W.outside world.new) }
+{
+    let settings = Settings {
+        bounds: job.bounds,
+        conflicts: job.conflicts,
+        sets: job.sets,
+    };
+    let softs = softs_of(alloc, encoded)?;
+    let confirm = Confirm::new(alloc, judge, settings, encoded)?;
+    steps.begin(encoded.formula(), softs.as_slice())?;
+    Ok(file_answer(world, job.cert.as_str(), confirm)?)
+}
+
+/// The answer of a job's certificate on a case.
 ///
 /// `SinkFailed` comes only if the faults of `steps` rose; `Memory` if memory runs out.
 fn check_case<W, D>(
@@ -180,22 +224,45 @@ where
     requires bounds { are_bounds job.now.bounds ≡ true }
     requires fits { fits case.now.program case.now.input ≡ true }
     requires weights { AreWeightsOf case.now.program case.now.weights.of }
-    ensures ends { (x : Texts) → IsCaseOf job.now.bounds x case.now → TextsEnd job.now x
+    ensures ends { (x : Texts) → IsCaseOf job.now.bounds x case.now
+        → TextsEnd (one_run job.now) job.now x
         (W.outside world.old) (W.outside world.new) (D.told steps.old) (D.told steps.new) result }
     ensures bounded { GivesAtMost (certificate_limit + piece_size)
         (W.outside world.old) (W.outside world.new) }
     ensures stays { OnlyReads (W.outside world.old) (W.outside world.new) }
 {
-    let settings = Settings {
-        bounds: job.bounds,
-        conflicts: job.conflicts,
-        sets: job.sets,
-    };
     let encoded = formula_of(alloc, &case.program, &case.input, job.bounds, &case.weights)?;
-    let softs = softs_of(alloc, &encoded)?;
-    let confirm = Confirm::new(alloc, &case.program, &case.input, settings, &encoded)?;
-    steps.begin(encoded.formula(), softs.as_slice())?;
-    Ok(file_answer(world, job.cert.as_str(), confirm)?)
+    let judge = ProgramJudge::new(alloc, &case.program, &case.input, job.bounds);
+    check_over(alloc, world, job, &encoded, judge, steps)
+}
+
+/// The answer of a job's certificate on several runs taken together.
+///
+/// `SinkFailed` comes only if the faults of `steps` rose; `Memory` if memory runs out.
+fn check_case_of_all<W, D>(
+    alloc: Global,
+    world: &mut W,
+    job: &CheckJob,
+    case: &CaseOfAll,
+    steps: &mut D,
+) -> Result<Answer, SearchError>
+where
+    W: World,
+    D: StepSink + Drop,
+    requires bounds { are_bounds job.now.bounds ≡ true }
+    requires fits { All (λ input. fits case.now.program input ≡ true) case.now.inputs }
+    requires weights { AreWeightsOf case.now.program case.now.weights.of }
+    ensures ends { (x : Texts) → IsCaseOfAll job.now.bounds x case.now
+        → TextsEnd (all_runs job.now) job.now x
+        (W.outside world.old) (W.outside world.new) (D.told steps.old) (D.told steps.new) result }
+    ensures bounded { GivesAtMost (certificate_limit + piece_size)
+        (W.outside world.old) (W.outside world.new) }
+    ensures stays { OnlyReads (W.outside world.old) (W.outside world.new) }
+{
+    let inputs = case.inputs.as_slice();
+    let encoded = formula_of_all(alloc, &case.program, inputs, job.bounds, &case.weights)?;
+    let judge = JudgeOfAll::new(alloc, &case.program, inputs, job.bounds);
+    check_over(alloc, world, job, &encoded, judge, steps)
 }
 
 /// The answer of a job's certificate on the run of the program that these texts spell, which fails; or why it
@@ -218,14 +285,45 @@ where
     D: StepSink + Drop,
     requires short { AreShort texts.now }
     requires bounds { are_bounds job.now.bounds ≡ true }
-    ensures ends { TextsEnd job.now texts.now (W.outside world.old) (W.outside world.new)
-        (D.told steps.old) (D.told steps.new) result }
+    ensures ends { TextsEnd (one_run job.now) job.now texts.now
+        (W.outside world.old) (W.outside world.new) (D.told steps.old) (D.told steps.new) result }
     ensures bounded { GivesAtMost (certificate_limit + piece_size)
         (W.outside world.old) (W.outside world.new) }
     ensures stays { OnlyReads (W.outside world.old) (W.outside world.new) }
 {
     match read_case(alloc, texts, job.bounds) {
         Ok(case) => check_case(alloc, world, job, &case, steps),
+        Err(stop) => stop.answer(),
+    }
+}
+
+/// The answer of a job's certificate on the runs on all inputs that a text writes in its lines, each of which
+/// fails; or why it isn't checked.
+///
+/// The units are counted once for each input, and the program is run as written on each. All else is as in
+/// [`check_texts`].
+///
+/// `SinkFailed` comes only if the faults of `steps` rose; `Memory` if memory runs out.
+pub fn check_all_texts<W, D>(
+    alloc: Global,
+    world: &mut W,
+    job: &CheckJob,
+    texts: &Texts,
+    steps: &mut D,
+) -> Result<Answer, SearchError>
+where
+    W: World,
+    D: StepSink + Drop,
+    requires short { AreShort texts.now }
+    requires bounds { are_bounds job.now.bounds ≡ true }
+    ensures ends { TextsEnd (all_runs job.now) job.now texts.now
+        (W.outside world.old) (W.outside world.new) (D.told steps.old) (D.told steps.new) result }
+    ensures bounded { GivesAtMost (certificate_limit + piece_size)
+        (W.outside world.old) (W.outside world.new) }
+    ensures stays { OnlyReads (W.outside world.old) (W.outside world.new) }
+{
+    match read_case_of_all(alloc, texts, job.bounds) {
+        Ok(case) => check_case_of_all(alloc, world, job, &case, steps),
         Err(stop) => stop.answer(),
     }
 }

@@ -1,7 +1,7 @@
 //! The jobs of checking a certificate.
 
 ghost use Rattle.std.specs.Prelude.{◌≡◌};
-ghost use Rattle.mode_check.specs.Jobs.{files_of};
+ghost use Rattle.mode_check.specs.Jobs.{files_of, files_with_inputs};
 
 use ba_answers::file::File;
 use ba_cases::files_for;
@@ -14,7 +14,7 @@ use ba_tree::run::Bounds;
 pub struct CheckJob<'a> {
     /// The file of the program.
     pub program: Text<'a>,
-    /// The file of the input.
+    /// The file of the input, or of the inputs, one a line.
     pub input: Text<'a>,
     /// The file of the certificate.
     pub cert: Text<'a>,
@@ -35,5 +35,12 @@ impl<'a> CheckJob<'a> {
         ensures { result ≡ files_of self.now }
     {
         files_for(&self.program, File::Input, &self.input, &self.weights)
+    }
+
+    /// The same files, if there are several inputs.
+    pub fn files_with_inputs(&self) -> [Named<'a>; 3]
+        ensures { result ≡ files_with_inputs self.now }
+    {
+        files_for(&self.program, File::Inputs, &self.input, &self.weights)
     }
 }

@@ -151,7 +151,7 @@ module _ (n : ℕ) (few : n ≤ 500) (p : Program) (same : tree_of p ≡ sample_
   none_at_once : case_answer job.bounds texts p ≡ None
   none_at_once =
       let units = units_are n p same job.bounds in
-      none_of (input_refusal p []) (weights_refusal []) (size_refusal p job.bounds)
+      none_of (input_refusal file.Input p []) (weights_refusal []) (size_refusal p job.bounds)
       (unfailing p None (run_in job.bounds texts p))
       (ap (option_map (λ (f : TextFault). answer.BadInput file.Input (named_fault f) None)) no_input_fault)
       (ap (option_map (λ line. answer.BadWeights line)) no_bad_line)

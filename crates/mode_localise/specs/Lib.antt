@@ -1,4 +1,3 @@
 pub mod Jobs
 pub mod Answers
-pub mod Certifying
 pub mod Leaving

@@ -13,7 +13,7 @@ use Rattle.ba_tree.specs.declared.tree.Program.{Program}
 use Rattle.ba_tree.specs.declared.tree.StmtInfo.{StmtInfo}
 
 -- THE PATH of a place: `main`, and behind it its steps, outermost first. `/call N` is call N, and `/L:K#T`
--- turn T of the loop whose condition stands there
+-- iteration T of the loop whose condition stands there
 
 -- where a statement begins: `L:K`; a number that is no statement's has no position
 abbrev pub position_text : Option StmtInfo → List ℕ

@@ -9,14 +9,16 @@ use ba_commands::Text;
 use ba_files::Named;
 use ba_tree::run::Bounds;
 
-/// A search for least sets of places: the names of its files, and how far the runs and the search may go.
+/// A search for least sets of places: the names of its files, and how far the runs and the search may
+/// go.
 #[derive(Drop)]
 pub struct PlacesJob<'a> {
     /// The file of the program.
     pub program: Text<'a>,
     /// The file of the input.
     pub input: Text<'a>,
-    /// The file of the weights, if there is one: what it fixes is not relaxed, and other weights count for nothing.
+    /// The file of the weights, if there is one. What it fixes is not relaxed; other weights count for
+    /// nothing.
     pub weights: Option<Text<'a>>,
     /// How far a run may go.
     pub bounds: Bounds,

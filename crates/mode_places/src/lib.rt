@@ -1,5 +1,5 @@
-//! The mode `localise` with `--places`: the least sets of single executions of statements whose change could repair a run that
-//! fails.
+//! The mode `localise` with `--places`: the least sets of single executions of statements whose change
+//! could repair a run that fails.
 #![tactic(auto)]
 
 mod jobs;

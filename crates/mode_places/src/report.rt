@@ -15,8 +15,8 @@ use ba_tree::run::{Place, Step};
 use ba_tree::tree::{Program, StmtInfo};
 use std::alloc::{AllocError, Global};
 
-/// What the lines of a report are written from: the source's lines, the program that they spell, and the places whose
-/// numbers the sets have. `runs` says whether each set has a line for its run.
+/// What the lines of a report are written from: the source's lines, the program that they spell, and the
+/// places whose numbers the sets have. `runs` says whether each set has a line for its run.
 #[derive(Drop)]
 struct PlaceListing<'a> {
     lines: Lines<'a>,
@@ -171,12 +171,13 @@ impl PlaceListing<'_> {
     }
 }
 
-/// The report of sets of places of the program that the source text spells. The sets have the numbers of a list of places.
+/// The report of sets of places of the program that the source text spells. The sets have the numbers of a
+/// list of places.
 ///
-/// One line tells how many members each set has and how many sets there are. Each set has a line for each of its places,
-/// with position, kind, path and source line. Where `runs` is true it has one more for its run.
+/// One line tells how many members each set has and how many sets there are. Each set has a line for each of
+/// its places, with position, kind, path and source line. If `runs` is true it has one more for its run.
 ///
-/// The one error is want of memory.
+/// The only error is out of memory.
 pub fn place_report(
     alloc: Global,
     source: &[u8],

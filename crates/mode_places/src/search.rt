@@ -20,7 +20,7 @@ use std::alloc::{AllocError, Global};
 
 /// The answer that tells a verdict on places of the program of this source text.
 ///
-/// The one error is want of memory.
+/// The only error is out of memory.
 fn verdict_answer(
     alloc: Global,
     job: &PlacesJob,
@@ -53,7 +53,7 @@ fn verdict_answer(
 
 /// What a search for the least sets of places of a case comes to; its derivation is handed to `steps`.
 ///
-/// `SinkFailed` comes only where the faults of `steps` rose; `Memory` for want of memory.
+/// `SinkFailed` comes only if the faults of `steps` rose; `Memory` if memory runs out.
 fn locate<D: StepSink + Drop, R: SearchRules + Drop>(
     alloc: Global,
     job: &PlacesJob,
@@ -81,13 +81,14 @@ fn locate<D: StepSink + Drop, R: SearchRules + Drop>(
     Ok(verdict_answer(alloc, job, source, &case.program, &found)?)
 }
 
-/// The least sets of places of the program that these texts spell, whose run on the input fails; or why they aren't told.
+/// The least sets of places of the program that these texts spell, whose run on the input fails; or why they
+/// aren't told.
 ///
-/// In this order it reads the program, the input and the weights, counts the units, runs the program as written, and
-/// searches. The derivation is handed to `steps`: the formula, and then each step as it is made.
+/// In this order it reads the program, the input and the weights, counts the units, runs the program as
+/// written, and searches. The derivation is handed to `steps`: the formula, and then each step as it is made.
 ///
-/// `SinkFailed` comes only where the faults of `steps` rose; `Memory` for want of memory. What was handed on before an
-/// error stays.
+/// `SinkFailed` comes only if the faults of `steps` rose; `Memory` if memory runs out. What was handed on
+/// before an error stays.
 pub fn places_texts<D: StepSink + Drop, R: SearchRules + Drop>(
     alloc: Global,
     job: &PlacesJob,

@@ -26,7 +26,8 @@ use Rattle.ba_steps.specs.declared.step.CertStep.{CertStep}
 use Rattle.ba_tree.specs.Least.{AreLeast, WeightList, judge_of}
 use Rattle.ba_tree.specs.declared.tree.Program.{Program}
 use Rattle.mode_rank.specs.Answers.{IsListed, IsStoppedAt, Listed, ShowsAt, TellsList, derivations_of, judge_at, ranked, sets_in, stopped}
-use Rattle.mode_rank.specs.Inputs.{AreRunsOf, inputs_of, rank_answer}
+use Rattle.ba_cases.specs.Inputs.{inputs_of}
+use Rattle.mode_rank.specs.Inputs.{AreRunsOf, rank_answer}
 use Rattle.mode_rank.specs.Report.{ranked_text}
 use Rattle.mode_rank.specs.Searches.{ComesTo, Concludes, Finds, FindsList, FindsNone, HasListed, LeavesLists, PartLeaves, Stops, between, in_search, within}
 use Rattle.mode_rank.specs.declared.jobs.RankJob.{RankJob}

@@ -23,7 +23,8 @@ use Rattle.ba_tree.proofs.Sets.{AreLeast-unique}
 use Rattle.ba_tree.specs.declared.tree.Program.{Program}
 use Rattle.ba_tree_laws.specs.Spelling.{Spells}
 use Rattle.mode_rank.specs.Answers.{AreListed, IsAnswer, IsFound, IsListed, IsRanked, IsStoppedAt, Listed, ShowsAt, judge_at, lists_of, ranked, sets_in, stop_answer, stopped}
-use Rattle.mode_rank.specs.Inputs.{inputs_of, rank_answer}
+use Rattle.ba_cases.specs.Inputs.{inputs_of}
+use Rattle.mode_rank.specs.Inputs.{rank_answer}
 use Rattle.mode_rank.specs.Report.{ranked_text}
 use Rattle.mode_rank.specs.declared.jobs.RankJob.{RankJob}
 use Rattle.mode_rank.proofs.Alike.{answer_alike, found_alike}

@@ -18,7 +18,8 @@ use Rattle.ba_rank.specs.Ranking.{IsRanking}
 use Rattle.ba_rank.specs.declared.ranking.Ranked.{Ranked}
 use Rattle.ba_tree.specs.Least.{AreLeast, judge_of}
 use Rattle.ba_tree.specs.declared.tree.Program.{Program}
-use Rattle.mode_rank.specs.Inputs.{inputs_of, rank_answer}
+use Rattle.ba_cases.specs.Inputs.{inputs_of}
+use Rattle.mode_rank.specs.Inputs.{rank_answer}
 use Rattle.mode_rank.specs.Report.{ranked_text}
 use Rattle.mode_rank.specs.declared.jobs.RankJob.{RankJob}
 use Rattle.mode_rank.specs.declared.searches.Found.{Found}

@@ -17,7 +17,8 @@ use Rattle.ba_tree.specs.declared.run.Outcome.TheVariants as outcome
 use Rattle.ba_tree.specs.declared.tree.Program.{Program}
 use Rattle.ba_tree_laws.specs.Spelling.{Spells}
 use Rattle.mode_rank.specs.Answers.{AreListed, IsAnswer, IsListed, IsStoppedAt, Listed, ShowsAt, derivations_of, judge_at, lists_of, stop_answer}
-use Rattle.mode_rank.specs.Inputs.{inputs_of, rank_answer}
+use Rattle.ba_cases.specs.Inputs.{inputs_of}
+use Rattle.mode_rank.specs.Inputs.{rank_answer}
 use Rattle.mode_rank.specs.Jobs.{MayBeDone}
 use Rattle.mode_rank.specs.declared.jobs.RankJob.{RankJob}
 use Rattle.mode_rank.specs.declared.runs.Runs.{Runs}

@@ -2,6 +2,7 @@
 
 use Rattle.std.proofs.Common.{◌≡◌, ◌∙◌, None, option_map, refl, ap}
 use Rattle.ba_answers.specs.declared.answers.Answer.TheVariants as answer
+use Rattle.ba_answers.specs.declared.file.File.TheVariants as file
 use Rattle.ba_cases.specs.AtOnce.{Tells, input_refusal, run_in, unfailing}
 use Rattle.ba_cases.specs.declared.stop.Stop.{Stop}
 use Rattle.ba_cases.specs.declared.stop.Stop.TheVariants as stop
@@ -35,6 +36,8 @@ end_same p q same (outcome.Beyond stmt) = ends_alike p q same None (outcome.Beyo
 end_same p q same outcome.WrongChoices = refl
 
 pub run_of_meaning : (b : Bounds) (x : Texts) → IsOfMeaning (run_answer b x)
-run_of_meaning b x p q same = at_once_alike p q same (input_refusal p x.input) (input_refusal q x.input)
-    x.weights b (end_answer p (run_in b x p)) (end_answer q (run_in b x q)) (refusals_alike p q same x.input)
+run_of_meaning b x p q same = at_once_alike p q same
+    (input_refusal file.Input p x.input) (input_refusal file.Input q x.input)
+    x.weights b (end_answer p (run_in b x p)) (end_answer q (run_in b x q)) (refusals_alike p q same
+    file.Input x.input)
     (end_same p q same (run_in b x p) ∙ ap (end_answer q) (runs_alike p q same x.input b))

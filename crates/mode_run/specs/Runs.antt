@@ -27,4 +27,4 @@ end_answer p end = unfailing p None end
 -- THE ANSWER, which comes without a search
 abbrev pub run_answer : Bounds → Texts → Program → Option Answer
 run_answer bounds x p =
-    at_once (input_refusal p x.input) x.weights bounds (end_answer p (run_in bounds x p)) p
+    at_once (input_refusal file.Input p x.input) x.weights bounds (end_answer p (run_in bounds x p)) p

@@ -66,7 +66,7 @@ fn run_case(alloc: Global, texts: &Texts, bounds: Bounds) -> Result<Answer, Stop
     ensures err { IfErr result (IsStopped texts.now.program (run_answer bounds texts.now)) }
 {
     let program = read_program(alloc, texts.program.as_slice())?;
-    let input = read_one_input(alloc, &program, texts.input.as_slice())?;
+    let input = read_one_input(alloc, File::Input, &program, texts.input.as_slice())?;
     let _weights = read_weights_of(alloc, &program, texts.weights.as_slice())?;
     check_size(&program, bounds)?;
     let outcome = plain_run(alloc, &program, &input, bounds)?;

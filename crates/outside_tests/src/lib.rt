@@ -4,7 +4,7 @@
 //! - the lines of certificates, and their answers
 //! - reports beside their texts, written by hand
 //! - real files, calls that fail, and what a search hands on
-//! - the printed runs of single executions, read back and executed
+//! - the printed runs of single executions and the printed edits, read back and tried
 //!
 //! What the program answers to whole calls is shown by the scripts of `trials`.
 #![tactic(auto)]
@@ -16,7 +16,11 @@ mod cert_sinks;
 #[cfg(test)]
 mod check;
 #[cfg(test)]
+mod edit_runs;
+#[cfg(test)]
 mod judge;
+#[cfg(test)]
+mod judge_of_all;
 #[cfg(test)]
 mod place_runs;
 #[cfg(test)]

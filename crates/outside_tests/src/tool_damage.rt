@@ -17,6 +17,17 @@ const CHECKING: &[&str] = &["check", "p.c", "in.txt", "c", "--bound=1"];
 
 const CHECKING_OTHER_SETS: &[&str] = &["check", "p.c", "in.txt", "c", "--bound=1", "--sets=9"];
 
+const TOGETHER: &[&str] = &[
+    "localise",
+    "p.c",
+    "all.txt",
+    "--bound=1",
+    "--cert=c",
+    "--all",
+];
+
+const CHECKING_TOGETHER: &[&str] = &["check", "p.c", "all.txt", "c", "--bound=1", "--all"];
+
 /// Whether an answer tells that the certificate is refused.
 fn is_refusal(printed: &[u8], error: &str) -> bool {
     printed.starts_with(b"refused: certificate, error ")
@@ -97,6 +108,49 @@ fn change(rt: &impl Abort, alloc: Global, text: &mut [u8]) {
             text[place] = byte;
         }
     }
+}
+
+/// The line of a listed set without the last choice of its runs.
+fn before_the_last_choice(line: &[u8]) -> &[u8] {
+    let mut front = line;
+    let mut place: usize = 0;
+    for byte in line {
+        if *byte == b't' || *byte == b'k' {
+            front = line.get(..place.saturating_sub(1)).unwrap_or(line);
+        }
+        place = place.saturating_add(1);
+    }
+    front
+}
+
+/// A certificate whose first listed set lacks the last choice of its runs.
+fn without_a_choice(rt: &impl Abort, alloc: Global, text: &[u8]) -> Vec<u8> {
+    let mut shorter = Vec::new(alloc);
+    let mut is_cut = false;
+    for line in text.split(|byte| *byte == b'\n') {
+        let mut kept = line;
+        if !is_cut && line.starts_with(b"s ") {
+            kept = before_the_last_choice(line);
+            is_cut = true;
+        }
+        shorter.extend_from_slice(kept).expect(rt, "memory");
+        shorter.extend_from_slice(b"\n").expect(rt, "memory");
+    }
+    assert!(rt; is_cut);
+    shorter
+}
+
+#[test]
+fn a_listed_set_needs_the_runs_on_all_inputs(rt: HostRuntime) {
+    let alloc = rt.alloc();
+    let mut world = counted_world(&rt, alloc, b"", &[]);
+    assert_eq!(rt; end(alloc, TOGETHER, &mut world, &mut NoSink), Status::Ok);
+    let written = world.inside.file("c").expect(&rt, "no certificate");
+    let text = without_a_choice(&rt, alloc, written);
+    let mut world = counted_world(&rt, alloc, text.as_slice(), &[]);
+    let status = end(alloc, CHECKING_TOGETHER, &mut world, &mut NoSink);
+    assert_eq!(rt; status, Status::BadCertificate);
+    assert!(rt; is_refusal(world.inside.printed(), "6 at line "));
 }
 
 #[test]

@@ -20,7 +20,27 @@ const WEIGHED: &[&str] = &["localise", "p.c", "in.txt", "--bound=1", "--weights=
 
 const PLACED: &[&str] = &["localise", "p.c", "in.txt", "--bound=1", "--places"];
 
+const REPAIRING: &[&str] = &[
+    "repair",
+    "p.c",
+    "failing.txt",
+    "passing.txt",
+    "--bound=1",
+    "--weights=w.txt",
+];
+
+const TOGETHER: &[&str] = &[
+    "localise",
+    "p.c",
+    "all.txt",
+    "--bound=1",
+    "--cert=c",
+    "--all",
+];
+
 const CHECKING: &[&str] = &["check", "p.c", "in.txt", "c", "--bound=1"];
+
+const CHECKING_TOGETHER: &[&str] = &["check", "p.c", "all.txt", "c", "--bound=1", "--all"];
 
 const RUNNING: &[&str] = &["run", "p.c", "in.txt", "--bound=1"];
 
@@ -125,7 +145,12 @@ fn sweep(rt: &impl Abort, alloc: Global, calls: &[&[&str]], held: &[u8]) {
 #[test]
 fn each_call_of_the_world_may_fail(rt: HostRuntime) {
     let alloc = rt.alloc();
-    sweep(&rt, alloc, &[CERTIFIED, WEIGHED, PLACED], OLD);
+    sweep(
+        &rt,
+        alloc,
+        &[CERTIFIED, WEIGHED, PLACED, TOGETHER, REPAIRING],
+        OLD,
+    );
     let mut world = counted_world(&rt, alloc, OLD, &[]);
     end(alloc, CERTIFIED, &mut world, &mut NoSink);
     assert_eq!(rt; world.inside.printed(), BRANCHES_REPORT.as_bytes());
@@ -135,6 +160,15 @@ fn each_call_of_the_world_may_fail(rt: HostRuntime) {
         &[CHECKING, RUNNING],
         world.inside.file("c").expect(&rt, "no certificate"),
     );
+}
+
+#[test]
+fn each_call_of_the_world_may_fail_in_a_check_of_several_runs(rt: HostRuntime) {
+    let alloc = rt.alloc();
+    let mut world = counted_world(&rt, alloc, OLD, &[]);
+    assert_eq!(rt; end(alloc, TOGETHER, &mut world, &mut NoSink), Status::Ok);
+    let certificate = world.inside.file("c").expect(&rt, "no certificate");
+    sweep(&rt, alloc, &[CHECKING_TOGETHER], certificate);
 }
 
 /// A certificate up to its head and so many steps.
@@ -188,15 +222,37 @@ fn each_call_of_the_sink_may_fail(rt: HostRuntime) {
     assert_sink_faults(&rt, alloc, &world, sink.calls);
 }
 
+/// Asserts so for each call of the sink that a call without a certificate makes.
+fn assert_plain_sink_faults(rt: &impl Abort, alloc: Global, words: &[&str]) {
+    let mut world = counted_world(rt, alloc, OLD, &[]);
+    let mut sink = FailingSink::new(u64::MAX);
+    assert_eq!(rt; end(alloc, words, &mut world, &mut sink), Status::Ok);
+    assert!(rt; sink.calls > 2);
+    for number in 0..sink.calls {
+        assert_sink_fault(rt, alloc, words, number, OLD);
+    }
+}
+
 #[test]
 fn each_call_of_the_sink_may_fail_over_places(rt: HostRuntime) {
+    assert_plain_sink_faults(&rt, rt.alloc(), PLACED);
+}
+
+#[test]
+fn each_call_of_the_sink_may_fail_in_a_repair(rt: HostRuntime) {
+    assert_plain_sink_faults(&rt, rt.alloc(), REPAIRING);
+}
+
+#[test]
+fn each_call_of_the_sink_may_fail_over_several_inputs(rt: HostRuntime) {
     let alloc = rt.alloc();
     let mut world = counted_world(&rt, alloc, OLD, &[]);
     let mut sink = FailingSink::new(u64::MAX);
-    assert_eq!(rt; end(alloc, PLACED, &mut world, &mut sink), Status::Ok);
+    assert_eq!(rt; end(alloc, TOGETHER, &mut world, &mut sink), Status::Ok);
     assert!(rt; sink.calls > 2);
+    let certificate = world.inside.file("c").expect(&rt, "no certificate");
     for number in 0..sink.calls {
-        assert_sink_fault(&rt, alloc, PLACED, number, OLD);
+        assert_sink_fault(&rt, alloc, TOGETHER, number, front_of(certificate, number));
     }
 }
 

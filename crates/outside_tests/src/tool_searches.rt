@@ -1,7 +1,9 @@
 //! Searches: what is handed to a sink, and certificates.
 
-use crate::support::calls::{end, world_of};
-use crate::support::programs::{BRANCHES, BRANCHES_REPORT, ONE_ASSIGNMENT, TWICE, TWICE_REPORT};
+use crate::support::calls::{counted_world, end, world_of};
+use crate::support::programs::{
+    BRANCHES, BRANCHES_EDITS, BRANCHES_REPORT, ONE_ASSIGNMENT, TWICE, TWICE_REPORT,
+};
 use ba_answers::status::Status;
 use ba_cert::{read_line, step_text};
 use ba_steps::{Basis, CertStep, ListSink, NoSink};
@@ -93,6 +95,65 @@ fn hands_on_a_derivation_for_each_input(rt: HostRuntime) {
             line_of(&rt, alloc, other).as_slice()
         );
     }
+}
+
+/// Asserts that one derivation was handed on, which lists the least sets.
+fn assert_one_derivation(rt: &impl Abort, steps: &ListSink) {
+    assert_eq!(rt; steps.over().len(), 1);
+    let ends = steps
+        .steps()
+        .iter()
+        .filter(|step| matches!(step, CertStep::EndLocated { .. }))
+        .count();
+    assert_eq!(rt; ends, 1);
+}
+
+#[test]
+fn hands_on_one_derivation_for_a_repair(rt: HostRuntime) {
+    let alloc = rt.alloc();
+    let mut world = counted_world(&rt, alloc, b"", &[]);
+    let mut steps = ListSink::new(alloc);
+    let words = ["repair", "p.c", "failing.txt", "passing.txt", "--bound=1"];
+    assert_eq!(rt; end(alloc, &words, &mut world, &mut steps), Status::Ok);
+    assert_eq!(rt; world.inside.printed(), BRANCHES_EDITS.as_bytes());
+    assert_one_derivation(&rt, &steps);
+}
+
+#[test]
+fn hands_on_one_derivation_for_all_inputs(rt: HostRuntime) {
+    let alloc = rt.alloc();
+    let mut world = world_of(&rt, alloc, BRANCHES, "1\n1\n", &[], 4096);
+    let mut steps = ListSink::new(alloc);
+    let words = ["localise", "p.c", "in.txt", "--bound=1", "--all"];
+    assert_eq!(rt; end(alloc, &words, &mut world, &mut steps), Status::Ok);
+    assert_one_derivation(&rt, &steps);
+}
+
+/// A report without its first line.
+fn lines_behind_the_first(report: &[u8]) -> &[u8] {
+    match report.iter().position(|byte| *byte == b'\n') {
+        Some(place) => report.get(place..).unwrap_or(report),
+        None => report,
+    }
+}
+
+#[test]
+fn one_input_has_the_sets_that_it_has_alone(rt: HostRuntime) {
+    let alloc = rt.alloc();
+    let mut alone = world_of(&rt, alloc, BRANCHES, "1", &[], 4096);
+    let words = ["localise", "p.c", "in.txt", "--bound=1"];
+    assert_eq!(rt; end(alloc, &words, &mut alone, &mut NoSink), Status::Ok);
+    let mut all = world_of(&rt, alloc, BRANCHES, "1\n", &[], 4096);
+    let words = ["localise", "p.c", "in.txt", "--bound=1", "--all"];
+    assert_eq!(rt; end(alloc, &words, &mut all, &mut NoSink), Status::Ok);
+    assert!(rt;
+        all.printed()
+            .starts_with(b"located: inputs 1, weight 1, sets 3\n")
+    );
+    assert_eq!(rt;
+        lines_behind_the_first(all.printed()),
+        lines_behind_the_first(alone.printed())
+    );
 }
 
 /// The line of a step in a certificate.

@@ -9,6 +9,8 @@
 #[cfg(test)]
 mod bytes;
 #[cfg(test)]
+mod edits;
+#[cfg(test)]
 mod guards;
 #[cfg(test)]
 mod inline;

@@ -46,8 +46,30 @@ pub fn world_of(
     MemoryWorld::new(alloc, files, fails, piece).expect(rt, "memory")
 }
 
-/// A world that gives pieces of 16 bytes and counts its calls. It holds the array example, with weights and
-/// with these bytes as its certificate.
+/// A world that holds a program, an input on which it fails, and inputs on which it passes.
+pub fn repair_world(
+    rt: &impl Abort,
+    alloc: Global,
+    program: &str,
+    failing: &str,
+    passing: &str,
+) -> MemoryWorld {
+    let mut files = Vec::new(alloc);
+    files
+        .push(file(rt, alloc, "p.c", program.as_bytes()))
+        .expect(rt, "memory");
+    files
+        .push(file(rt, alloc, "failing.txt", failing.as_bytes()))
+        .expect(rt, "memory");
+    files
+        .push(file(rt, alloc, "passing.txt", passing.as_bytes()))
+        .expect(rt, "memory");
+    MemoryWorld::new(alloc, files, Vec::new(alloc), 4096).expect(rt, "memory")
+}
+
+/// A world that gives pieces of 16 bytes and counts its calls. It holds the array example and weights for it.
+/// The example fails on `in.txt`, `failing.txt` and each line of `all.txt`, and passes on `passing.txt`. The
+/// certificate has these bytes.
 pub fn counted_world(
     rt: &impl Abort,
     alloc: Global,
@@ -62,7 +84,16 @@ pub fn counted_world(
         .push(file(rt, alloc, "in.txt", b"1"))
         .expect(rt, "memory");
     files
+        .push(file(rt, alloc, "all.txt", b"1\n# the same once more\n1\n"))
+        .expect(rt, "memory");
+    files
         .push(file(rt, alloc, "w.txt", b"7 3\n"))
+        .expect(rt, "memory");
+    files
+        .push(file(rt, alloc, "failing.txt", b"1"))
+        .expect(rt, "memory");
+    files
+        .push(file(rt, alloc, "passing.txt", b"0\n"))
         .expect(rt, "memory");
     files
         .push(file(rt, alloc, "c", certificate))

@@ -36,6 +36,9 @@ fn refusal_of(name: &str) -> Refusal {
     match name {
         "p.c" => Some("refused: program cannot be read\n"),
         "in.txt" => Some("refused: input cannot be read\n"),
+        "failing.txt" => Some("refused: failing cannot be read\n"),
+        "passing.txt" => Some("refused: passing cannot be read\n"),
+        "all.txt" => Some("refused: inputs cannot be read\n"),
         "w.txt" => Some("refused: weights cannot be read\n"),
         _ => Some("refused: certificate cannot be read\n"),
     }

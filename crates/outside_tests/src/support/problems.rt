@@ -8,6 +8,7 @@ ghost use Rattle.ba_tree.specs.Run.{are_bounds};
 use ba_check::{CheckError, Confirm, Confirmed, Settings, confirm};
 use ba_encode::{Encoded, Group, softs_of};
 use ba_items::Items;
+use ba_judge::ProgramJudge;
 use ba_numbers::ids::StmtId;
 use ba_tree::run::{Bounds, Input};
 use ba_tree::tree::Program;
@@ -43,10 +44,10 @@ pub fn settings(conflicts: u64, sets: u32) -> Settings
     }
 }
 
-/// The input of one parameter with the value 1.
-fn one(rt: &impl Abort, alloc: Global) -> Input {
+/// The input of one parameter with this value.
+pub fn input_of(rt: &impl Abort, alloc: Global, number: i64) -> Input {
     let mut value = Items::new(alloc);
-    value.push(1).expect(rt, "memory");
+    value.push(number).expect(rt, "memory");
     let mut values = Items::new(alloc);
     values.push(value).expect(rt, "memory");
     Input { values }
@@ -76,7 +77,7 @@ pub fn array_example(rt: &impl Abort, alloc: Global, clauses: &[&[i64]]) -> Prob
     let encoded = Encoded::without_places(alloc, formula, groups);
     Problem {
         program,
-        input: one(rt, alloc),
+        input: input_of(rt, alloc, 1),
         encoded,
     }
 }
@@ -93,13 +94,8 @@ fn by_pieces(
     requires selectors { AreSelectors problem.now.encoded.formula.variables
         (softs_of problem.now.encoded.groups) }
 {
-    let mut confirm = Confirm::new(
-        alloc,
-        &problem.program,
-        &problem.input,
-        settings,
-        &problem.encoded,
-    )?;
+    let judge = ProgramJudge::new(alloc, &problem.program, &problem.input, settings.bounds);
+    let mut confirm = Confirm::new(alloc, judge, settings, &problem.encoded)?;
     for piece in text.chunks(size.max(1)) {
         confirm.feed(piece)?;
     }
@@ -152,14 +148,8 @@ pub fn feed_all(
     requires { are_bounds settings.bounds ≡ true }
 {
     assert_selectors(rt, alloc, problem);
-    let mut confirm = Confirm::new(
-        alloc,
-        &problem.program,
-        &problem.input,
-        settings,
-        &problem.encoded,
-    )
-    .expect(rt, "memory");
+    let judge = ProgramJudge::new(alloc, &problem.program, &problem.input, settings.bounds);
+    let mut confirm = Confirm::new(alloc, judge, settings, &problem.encoded).expect(rt, "memory");
     for piece in pieces {
         let refusal = confirm.feed(piece.as_bytes()).err();
         refusals.push(refusal).expect(rt, "memory");

@@ -35,6 +35,14 @@ set 3:
   8:5 assignment | i = index;
 ";
 
+/// The edits of these statements that make it pass on 1 and on 0.
+pub const BRANCHES_EDITS: &str = "edits: 4
+  4:9 condition, node 1: != -> == | if (index != 1)
+  4:9 condition, node 2: 1 -> 0 | if (index != 1)
+  4:9 condition, node 2: 1 -> 2 | if (index != 1)
+  7:9 assignment, node 2: 2 -> 1 | index = index + 2;
+";
+
 /// A function that is called twice, and whose value is wrong.
 pub const TWICE: &str = "int up(int x) {
     return x + 1;

@@ -43,11 +43,12 @@ pub returns-in-Ok : goal.returns-in-Ok
 returns-in-Ok c =
     read_found _ c.command_in.result c.ok_or.result c.ok_or.ensures.value
     (found_command c.args.words.now no_word c.in-Some.mode c.in-Ok.matches c.get_flag-runs.result
-    c.get_flag-places.result c.in-len1-up.len_at_least c.in-Some.ensures
+    c.get_flag-places.result c.get_flag-all.result c.in-len1-up.len_at_least c.in-Some.ensures
     (others c.args.words.now c.in-Some.mode ∙ sym c.are_readable.ensures ∙ c.if-not-are_readable.false)
     c.in-Ok.ensures
     (record {
       runs_read = record { on = c.get_flag-runs.ensures.value; off = c.get_flag-runs.ensures.other };
       places_read = record { on = c.get_flag-places.ensures.value; off = c.get_flag-places.ensures.other };
+      all_read = record { on = c.get_flag-all.ensures.value; off = c.get_flag-all.ensures.other };
     })
     ∙ sym c.command_in.ensures)

@@ -1,4 +1,3 @@
-use Rattle.ba_formula.proofs.Composing.{has-runs}
 use Rattle.ba_formula.proofs.PlaceComposing.{place-formula-is, three-ok}
 use Rattle.ba_formula.proofs.PlaceRelaxing.{are-apart}
 use Rattle.ba_formula.specs.PlaceFormulas.{IsPlaceFormulaOf}
@@ -13,9 +12,6 @@ returns c =
     let input = c.args.input.now in
     let w = c.args.weights.now.of in
     three-ok c.encode_places.result _ _ _ (IsPlaceFormulaOf p input c.args.bounds w)
-    (place-formula-is p input c.args.bounds w c.requires.weights c.in_ok-words.words
-    (has-runs p input c.args.bounds c.requires.fits c.in_ok-looping.looping c.in_ok-looping.ensures
-    c.in_ok-straight.straight c.in_ok-straight.ensures.outcomes
-    c.in_ok-words.words c.in_ok-words.ensures)
+    (place-formula-is p input c.args.bounds w c.requires.weights c.in_ok-words.words c.in_ok-words.ensures
     c.in_ok-places.places c.in_ok-places.ensures.set c.in_ok-places.ensures.exactly)
     c.encode_places.ensures.places c.encode_places.ensures.encodes c.encode_places.ensures.clauses

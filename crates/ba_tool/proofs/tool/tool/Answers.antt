@@ -4,7 +4,7 @@ use Rattle.ba_tool.specs.Requests.{MayBeDone}
 use Rattle.ba_tool.specs.declared.requests.Request.{Request}
 use Rattle.ba_tool.proofs.Bounded.{may_be_done}
 use Rattle.ba_tool.proofs.Due.{ends_where}
-use Rattle.ba_tool.proofs.Ending.{comes_write, ends_says}
+use Rattle.ba_tool.proofs.Ending.{comes_write, ends_says, stops_unprinted}
 use Rattle.ba_tool.proofs.tool.tool.Goals as goal
 
 pub request_answer-requires-clause-request : goal.request_answer-requires-clause-request
@@ -65,6 +65,18 @@ returns-in-Err-SinkFailed-clause-says g c =
 
 pub returns-in-Err-Memory-clause-says : goal.returns-in-Err-Memory-clause-says
 returns-in-Err-Memory-clause-says g c = inl (subst (λ (r : Request). Stops r
+    (g.W.World.outside c.args.world.now) (g.W.World.outside c.request_answer.new.world)
+    (g.D.StepSink.told c.args.steps.now) (g.D.StepSink.told c.request_answer.new.steps)) c.in-Ok.ensures
+    c.request_answer.ensures.ends.left)
+
+pub returns-in-Err-SinkFailed-clause-stays : goal.returns-in-Err-SinkFailed-clause-stays
+returns-in-Err-SinkFailed-clause-stays g c = stops_unprinted _ _ _ _ _ (subst (λ (r : Request). Stops r
+    (g.W.World.outside c.args.world.now) (g.W.World.outside c.request_answer.new.world)
+    (g.D.StepSink.told c.args.steps.now) (g.D.StepSink.told c.request_answer.new.steps)) c.in-Ok.ensures
+    c.request_answer.ensures.ends.left)
+
+pub returns-in-Err-Memory-clause-stays : goal.returns-in-Err-Memory-clause-stays
+returns-in-Err-Memory-clause-stays g c = stops_unprinted _ _ _ _ _ (subst (λ (r : Request). Stops r
     (g.W.World.outside c.args.world.now) (g.W.World.outside c.request_answer.new.world)
     (g.D.StepSink.told c.args.steps.now) (g.D.StepSink.told c.request_answer.new.steps)) c.in-Ok.ensures
     c.request_answer.ensures.ends.left)

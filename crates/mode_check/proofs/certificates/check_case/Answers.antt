@@ -1,73 +1,47 @@
-use Rattle.std.proofs.Common.{inr, ◌∙◌, sym}
-use Rattle.mode_check.proofs.Concluding.{check_ends, faithful_case, checking_over, memory_ends, only_same, outlasts_same, refusal_ends, stops_at_once, stops_check}
+use Rattle.std.proofs.Common.{◌≡◌, ◌∙◌, sym, subst}
+use Rattle.ba_cases.specs.AtOnce.{weights_of}
+use Rattle.ba_choices.specs.Judges.{Judge}
+use Rattle.ba_derivations.specs.Encodings.{IsFaithful}
+use Rattle.ba_encode.specs.Softs.{softs_of}
+use Rattle.ba_judge.proofs.Judges.{same-judge}
+use Rattle.ba_tree.specs.Least.{judge_of}
+use Rattle.mode_check.proofs.Concluding.{faithful_case, judged_ends, no_memory_ends}
+use Rattle.mode_check.specs.Checks.{one_run}
 use Rattle.mode_check.proofs.certificates.check_case.Goals as goal
 
-pub new-requires-clause-selectors : goal.new-requires-clause-selectors
-new-requires-clause-selectors g c = c.in_ok-encoded.ensures.faithful.selectors
+pub check_over-requires-clause-clauses : goal.check_over-requires-clause-clauses
+check_over-requires-clause-clauses g c =
+    let made = c.in_ok-encoded.ensures.faithful in record {
+      clauses = made.clauses;
+      softs_among = made.selectors.among;
+      softs_differ = made.selectors.differ;
+    }
+
+pub check_over-requires-clause-selectors : goal.check_over-requires-clause-selectors
+check_over-requires-clause-selectors g c = c.in_ok-encoded.ensures.faithful.selectors
 
 pub returns-in_err-encoded-clause-ends : goal.returns-in_err-encoded-clause-ends
 returns-in_err-encoded-clause-ends g c = λ x is.
-    let j = c.args.job.now in
-    let o = g.W.World.outside c.args.world.now in
-    let t = g.D.StepSink.told c.args.steps.now in
-    memory_ends j x o o t t (stops_at_once j x o t) (outlasts_same t) c.from_residual.result
-    c.from_residual.ensures.1
-
-pub returns-in_err-softs-clause-ends : goal.returns-in_err-softs-clause-ends
-returns-in_err-softs-clause-ends g c = λ x is.
-    let j = c.args.job.now in
-    let o = g.W.World.outside c.args.world.now in
-    let t = g.D.StepSink.told c.args.steps.now in
-    memory_ends j x o o t t (stops_at_once j x o t) (outlasts_same t) c.from_residual-in_err-softs.result
-    c.from_residual-in_err-softs.ensures.1
-
-pub returns-in_err-confirm-clause-ends : goal.returns-in_err-confirm-clause-ends
-returns-in_err-confirm-clause-ends g c = λ x is.
-    let j = c.args.job.now in
-    let o = g.W.World.outside c.args.world.now in
-    let t = g.D.StepSink.told c.args.steps.now in
-    memory_ends j x o o t t (stops_at_once j x o t) (outlasts_same t) c.from_residual-in_err-confirm.result
-    c.from_residual-in_err-confirm.ensures.1
-
-pub returns-in_err-begin-clause-ends : goal.returns-in_err-begin-clause-ends
-returns-in_err-begin-clause-ends g c = λ x is.
-    let j = c.args.job.now in
-    let o = g.W.World.outside c.args.world.now in
-    let t = g.D.StepSink.told c.args.steps.now in
-    let u = g.D.StepSink.told c.begin.new.self in
-    refusal_ends j x o o t u
-    (stops_check j x c.args.case.now is c.in_ok-encoded.encoded c.formula.result.now c.as_slice.result.now
-    c.formula.ensures (c.as_slice.ensures.value ∙ c.in_ok-softs.ensures) c.in_ok-encoded.ensures o o t u
-    c.begin.ensures.logs_stay (only_same o) c.in_err-begin.ensures.refused) c.begin.ensures.outlasts
-    c.from_residual-in_err-begin.result c.in_err-begin.field-0.0 c.begin.result
-    c.from_residual-in_err-begin.ensures.1 c.in_err-begin.was c.begin.ensures.cause
-
-pub returns-in_err-file_answer-clause-ends : goal.returns-in_err-file_answer-clause-ends
-returns-in_err-file_answer-clause-ends g c = λ x is.
-    let j = c.args.job.now in
-    let o = g.W.World.outside c.args.world.now in
-    let after = g.W.World.outside c.file_answer.new.world in
-    let t = g.D.StepSink.told c.args.steps.now in
-    let u = g.D.StepSink.told c.begin.new.self in
-    memory_ends j x o after t u
-    (stops_check j x c.args.case.now is c.in_ok-encoded.encoded c.formula.result.now c.as_slice.result.now
-    c.formula.ensures (c.as_slice.ensures.value ∙ c.in_ok-softs.ensures) c.in_ok-encoded.ensures o after t u
-    c.begin.ensures.logs_stay c.file_answer.ensures.stays (inr c.in_ok-begin.ensures.told))
-    c.begin.ensures.outlasts c.from_residual-in_err-file_answer.result
-    c.from_residual-in_err-file_answer.ensures.1
+    no_memory_ends (one_run c.args.job.now) c.args.job.now x (g.W.World.outside c.args.world.now)
+    (g.D.StepSink.told c.args.steps.now) c.from_residual.result c.from_residual.ensures.1
 
 pub returns-clause-ends : goal.returns-clause-ends
 returns-clause-ends g c = λ x is.
     let j = c.args.job.now in
     let case = c.args.case.now in
+    let s = one_run j in
     let encoded = c.in_ok-encoded.encoded in
-    let o = g.W.World.outside c.args.world.now in
-    let after = g.W.World.outside c.file_answer.new.world in
-    let t = g.D.StepSink.told c.args.steps.now in
-    let u = g.D.StepSink.told c.begin.new.self in
-    check_ends j x case is encoded c.formula.result.now c.as_slice.result.now c.formula.ensures
-    (c.as_slice.ensures.value ∙ c.in_ok-softs.ensures) c.in_ok-encoded.ensures o after t u
-    c.begin.ensures.logs_stay c.file_answer.ensures.stays c.begin.ensures.outlasts
-    c.in_ok-file_answer.field-0 c.in_ok-begin.ensures.told
-    (c.in_ok-file_answer.ensures.answer (checking_over j x case encoded) (sym c.as_str.ensures)
-    c.in_ok-confirm.ensures.nothing_read (faithful_case j x case is encoded c.in_ok-encoded.ensures))
+    let judge = c.new-judge.result in
+    let good : Judge = judge_of judge.program.now judge.input.now judge.bounds in
+    let same : good ≡ s.judge x case.program =
+    same-judge judge.program.now case.program judge.input.now _ judge.bounds j.bounds
+    c.new-judge.ensures.program
+    (c.new-judge.ensures.input ∙ is.input) c.new-judge.ensures.bounds in
+    let faithful : IsFaithful encoded.formula (softs_of encoded.groups) (weights_of case.program x) good =
+    subst (λ (good : Judge). IsFaithful encoded.formula (softs_of encoded.groups) (weights_of case.program x)
+    good)
+    (sym same) (faithful_case j x case is encoded c.in_ok-encoded.ensures) in
+    judged_ends s j x case.program is.spells is.undecided (g.W.World.outside c.args.world.now)
+    (g.W.World.outside c.check_over.new.world) (g.D.StepSink.told c.args.steps.now)
+    (g.D.StepSink.told c.check_over.new.steps) good c.check_over.result same
+    (c.check_over.ensures.ends (weights_of case.program x) faithful)

@@ -1,3 +1,4 @@
+use Rattle.mode_check.specs.Checks.{one_run}
 use Rattle.mode_check.proofs.Concluding.{stopped_ends}
 use Rattle.mode_check.proofs.certificates.check_texts.Goals as goal
 
@@ -5,6 +6,6 @@ pub returns-in-Ok-clause-ends : goal.returns-in-Ok-clause-ends
 returns-in-Ok-clause-ends g c = c.check_case.ensures.ends c.args.texts.now c.in-Ok.ensures.ok
 
 pub returns-in-Err-clause-ends : goal.returns-in-Err-clause-ends
-returns-in-Err-clause-ends g c = stopped_ends c.args.job.now c.args.texts.now
+returns-in-Err-clause-ends g c = stopped_ends (one_run c.args.job.now) c.args.job.now c.args.texts.now
     (g.W.World.outside c.args.world.now) (g.D.StepSink.told c.args.steps.now) c.in-Err.stop c.answer.result
     c.in-Err.ensures.err c.answer.ensures

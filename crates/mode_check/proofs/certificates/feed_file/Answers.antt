@@ -9,7 +9,8 @@ use Rattle.mode_check.proofs.certificates.feed_file.Goals as goal
 
 pub loop-count-init : goal.loop-count-init
 loop-count-init g c = record {
-  feeding = feeding_starts c.args.name.now (seen c.args.confirm.now) (g.W.World.outside c.args.world.now)
+  feeding = feeding_starts c.args.name.now (seen g.J.RunJudge.accepts c.args.confirm.now) (g.W.World.outside
+      c.args.world.now)
       (g.W.World.outside c.open_file.new.self) c.in_ok-open_file.ensures.opened
       c.open_file.ensures.none_given;
   within = omega arith;
@@ -20,7 +21,8 @@ pub returns-in_err-count-clause-unfed : goal.returns-in_err-count-clause-unfed
 returns-in_err-count-clause-unfed g c = λ j named has.
     unfed_by j c.from_residual-in_err-count.result (Unread (read_error c.in_err-count.field-0.0)) _ _
     c.from_residual-in_err-count.ensures.1
-    (feeding_errs j c.args.name.now (seen c.args.confirm.now) (seen c.loop-count.confirm) c.loop-count.given
+    (feeding_errs j c.args.name.now (seen g.J.RunJudge.accepts c.args.confirm.now) (seen g.J.RunJudge.accepts
+    c.loop-count.confirm) c.loop-count.given
     (g.W.World.outside c.args.world.now) (g.W.World.outside c.loop-count.world)
     (g.W.World.outside c.next_piece.new.self) c.in_err-count.field-0.0 c.next_piece.result named has
     c.loop-count.invariant.feeding c.loop-count.invariant.within c.in_err-count.ensures.refused
@@ -34,7 +36,8 @@ returns-in_err-count-clause-bounded g c =
 
 pub returns-then-count-eq0-clause-fed : goal.returns-then-count-eq0-clause-fed
 returns-then-count-eq0-clause-fed g c = λ j named has.
-    feeding_ends j c.args.name.now (seen c.args.confirm.now) (seen c.loop-count.confirm) c.next_piece.new.into
+    feeding_ends j c.args.name.now (seen g.J.RunJudge.accepts c.args.confirm.now) (seen g.J.RunJudge.accepts
+    c.loop-count.confirm) c.next_piece.new.into
     c.in_ok-count.count c.loop-count.given (g.W.World.outside c.args.world.now)
     (g.W.World.outside c.loop-count.world) (g.W.World.outside c.next_piece.new.self) named has
     c.loop-count.invariant.feeding c.loop-count.invariant.within c.if-count-eq0.true
@@ -49,7 +52,8 @@ returns-then-count-eq0-clause-bounded g c =
 pub returns-then-given-gt-CERTIFICATE_LIMIT-clause-unfed :
     goal.returns-then-given-gt-CERTIFICATE_LIMIT-clause-unfed
 returns-then-given-gt-CERTIFICATE_LIMIT-clause-unfed g c = λ j named has.
-    feeding_passes j c.args.name.now (seen c.args.confirm.now) (seen c.loop-count.confirm)
+    feeding_passes j c.args.name.now (seen g.J.RunJudge.accepts c.args.confirm.now) (seen g.J.RunJudge.accepts
+    c.loop-count.confirm)
     c.next_piece.new.into
     c.in_ok-count.count c.loop-count.given (g.W.World.outside c.args.world.now)
     (g.W.World.outside c.loop-count.world) (g.W.World.outside c.next_piece.new.self) named has
@@ -65,8 +69,9 @@ returns-then-given-gt-CERTIFICATE_LIMIT-clause-bounded g c =
 
 pub loop-count-preserved : goal.loop-count-preserved
 loop-count-preserved g c = record {
-  feeding = feeding_goes_on c.args.name.now (seen c.args.confirm.now) (seen c.loop-count.confirm)
-      (seen c.feed.new.self) c.next_piece.new.into c.in_ok-count.count c.loop-count.given
+  feeding = feeding_goes_on c.args.name.now (seen g.J.RunJudge.accepts c.args.confirm.now) (seen
+      g.J.RunJudge.accepts c.loop-count.confirm)
+      (seen g.J.RunJudge.accepts c.feed.new.self) c.next_piece.new.into c.in_ok-count.count c.loop-count.given
       (g.W.World.outside c.args.world.now) (g.W.World.outside c.loop-count.world)
       (g.W.World.outside c.next_piece.new.self) c.loop-count.invariant.feeding c.in_ok-count.ensures.given
       c.next_piece.ensures.still c.feed.ensures.reads (λ h p text has. tells-first h p _ _ (Ok tt)
@@ -79,7 +84,8 @@ pub returns-in_err-feed-clause-unfed : goal.returns-in_err-feed-clause-unfed
 returns-in_err-feed-clause-unfed g c = λ j named has.
     unfed_by j c.from_residual-in_err-feed.result (Refused c.in_err-feed.field-0.0) _ _
     c.from_residual-in_err-feed.ensures.1
-    (feeding_stops j c.args.name.now (seen c.args.confirm.now) (seen c.loop-count.confirm)
+    (feeding_stops j c.args.name.now (seen g.J.RunJudge.accepts c.args.confirm.now) (seen g.J.RunJudge.accepts
+    c.loop-count.confirm)
     c.next_piece.new.into c.in_ok-count.count c.loop-count.given (g.W.World.outside c.args.world.now)
     (g.W.World.outside c.loop-count.world) (g.W.World.outside c.next_piece.new.self)
     c.in_err-feed.field-0.0 named has c.loop-count.invariant.feeding (omega arith) (omega arith)

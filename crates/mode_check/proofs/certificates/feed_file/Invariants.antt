@@ -8,7 +8,7 @@ use Rattle.mode_check.proofs.certificates.feed_file.Given as goal
 -- the reader has read all bytes that were given, which are no more than there may be
 abbrev pub invariant-loop-count : goal.invariant-loop-count
 invariant-loop-count g l = record {
-  feeding : IsFeeding l.name (seen l.fn.confirm) (seen l.confirm)
+  feeding : IsFeeding l.name (seen g.J.RunJudge.accepts l.fn.confirm) (seen g.J.RunJudge.accepts l.confirm)
       (g.W.World.outside l.fn.world) (g.W.World.outside l.world) l.given;
   within : l.given ≤ certificate_limit;
   stays : OnlyReads (g.W.World.outside l.fn.world) (g.W.World.outside l.world);

@@ -3,7 +3,7 @@ use Rattle.std.proofs.lemmas.Result.{IfOk-weaker}
 use Rattle.ba_cases.proofs.Answered.{stop_answers, stop_no_fault}
 use Rattle.ba_cases.specs.AtOnce.{case_answer}
 use Rattle.ba_steps.proofs.SinkLaws.{Outlasts-refl}
-use Rattle.mode_localise.specs.Leaving.{at_once, in_search}
+use Rattle.mode_localise.specs.Leaving.{at_once}
 use Rattle.mode_localise.proofs.Searching.{answered_at_once}
 use Rattle.mode_localise.proofs.search.localise_texts.Goals as goal
 
@@ -18,15 +18,4 @@ returns-in-Err-clause-ends g c =
       left = at_once refl (refl, refl);
       cause = λ failed. absurd (stop_no_fault c.in-Err.stop c.answer.result c.answer.ensures failed);
       outlasts = Outlasts-refl (g.D.StepSink.told c.args.steps.now);
-    }
-
-pub returns-in-Ok-clause-ends : goal.returns-in-Ok-clause-ends
-returns-in-Ok-clause-ends g c =
-    let ends = c.conclude.ensures in
-    let is = c.in-Ok.ensures.ok in
-    record {
-      answer = ends.answer;
-      left = in_search c.in-Ok.case.program is.spells is.undecided ends.left;
-      cause = ends.cause;
-      outlasts = ends.outlasts;
     }

@@ -7,13 +7,13 @@ use Rattle.ba_check.proofs.TruthLaws.{answered}
 use Rattle.ba_check.proofs.pieces.Confirm.finish.Goals as goal
 
 pub returns-in-Some-clause-answers : goal.returns-in-Some-clause-answers
-returns-in-Some-clause-answers c = λ h p text has.
+returns-in-Some-clause-answers g c = λ h p text has.
     answered h p text (Err c.in-Some.refusal)
-    (refusal-tells h p text (seen c.args.self) c.in-Some.refusal has c.in-Some.is)
+    (refusal-tells h p text (seen g.J.RunJudge.accepts c.args.self) c.in-Some.refusal has c.in-Some.is)
 
 pub returns-clause-answers : goal.returns-clause-answers
-returns-clause-answers c = λ h p text has.
-    let reader = seen c.args.self in
+returns-clause-answers g c = λ h p text has.
+    let reader = seen g.J.RunJudge.accepts c.args.self in
     answered h p text c.finish.result
     (end-tells h p text reader c.finish.result has c.in_default.is
     (subst (λ rest. Tells c.finish.result (finding_by reader.course rest)) c.as_slice.ensures.value

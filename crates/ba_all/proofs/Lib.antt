@@ -1,0 +1,4 @@
+pub mod Prefixes
+pub mod Cutting
+pub mod Judging
+pub mod Counting

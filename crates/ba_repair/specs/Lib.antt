@@ -1,0 +1,5 @@
+pub mod Nodes
+pub mod Rows
+pub mod Edits
+pub mod Changes
+pub mod Good

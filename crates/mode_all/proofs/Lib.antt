@@ -1,0 +1,6 @@
+pub mod Leaving
+pub mod Rows
+mod Adding
+mod Agreement
+mod Reporting
+mod Searching

@@ -1,8 +1,0 @@
-use Rattle.std.proofs.Common.{◌≡◌, drop}
-use Rattle.mode_rank.specs.Inputs.{ends_answer}
-use Rattle.mode_rank.proofs.runs.check_runs.Given as goal
-
--- the answer is that of the runs that are left
-abbrev pub invariant-loop-entry : goal.invariant-loop-entry
-invariant-loop-entry l =
-    ends_answer l.bounds l.program (drop l.entry-index l.inputs) ≡ ends_answer l.bounds l.program l.inputs

@@ -1,0 +1,7 @@
+mod Marking
+mod Reading
+mod Alike
+mod Agreement
+pub mod Rows
+mod Telling
+mod Searching

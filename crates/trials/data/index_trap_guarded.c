@@ -1,0 +1,7 @@
+int main(int k) {
+    int a[4] = {1, 2, 4, 7};
+    int y;
+    y = a[k + 1] + a[0];
+    assert(k != 3 || y == 8);
+    return 0;
+}
